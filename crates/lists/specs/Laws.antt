@@ -1,0 +1,2 @@
+-- Laws of the functions of Lists, proved: nothing here has to be believed.
+pub mod UpTo

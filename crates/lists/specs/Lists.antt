@@ -1,0 +1,82 @@
+-- Small computing functions on lists: tests, sums, lookups. Nothing of the store.
+-- Assumes nothing.
+use mathlib.Core.Bool.{Bool, true, false, _&&_, _||_}
+use mathlib.Core.List.{List, [], _∷_, _++_}
+use Prim.Native.Nat.{ℕ, zero, suc, _+_}
+use lib.Dec.{eqb}
+
+abbrev pub bit : Bool → ℕ
+bit true = 1
+bit false = 0
+
+abbrev pub pick : {A : Type 0} → Bool → A → A → A
+pick true a b = a
+pick false a b = b
+
+module _ {A : Type 0} where
+  -- some element passes; all elements pass
+  abbrev pub any : (A → Bool) → List A → Bool
+  any f [] = false
+  any f (x ∷ xs) = f x || any f xs
+
+  abbrev pub every : (A → Bool) → List A → Bool
+  every f [] = true
+  every f (x ∷ xs) = f x && every f xs
+
+  -- the elements that pass
+  abbrev pub keep : (A → Bool) → List A → List A
+  keep f [] = []
+  keep f (x ∷ xs) = let ys = keep f xs in pick (f x) (x ∷ ys) ys
+
+  -- the first element that passes, or d
+  abbrev pub find : (A → Bool) → A → List A → A
+  find f d [] = d
+  find f d (x ∷ xs) = pick (f x) x (find f d xs)
+
+  -- f of each element, added up
+  abbrev pub sum : (A → ℕ) → List A → ℕ
+  sum f [] = 0
+  sum f (x ∷ xs) = f x + sum f xs
+
+  -- P of each element
+  abbrev pub All : (A → Type 0) → List A → Type 0
+  All P [] = Unit {0}
+  All P (x ∷ xs) = P x × All P xs
+
+-- how many elements pass
+abbrev pub count : {A : Type 0} → (A → Bool) → List A → ℕ
+count f l = sum (λ x. bit (f x)) l
+
+module _ {A B : Type 0} where
+  -- f of the elements at each place of two lists, as far as both reach, added up
+  abbrev pub sum₂ : (A → B → ℕ) → List A → List B → ℕ
+  sum₂ f [] ys = 0
+  sum₂ f (x ∷ xs) [] = 0
+  sum₂ f (x ∷ xs) (y ∷ ys) = f x y + sum₂ f xs ys
+
+  -- P of the elements at each place, as far as both lists reach
+  abbrev pub All₂ : (A → B → Type 0) → List A → List B → Type 0
+  All₂ P [] ys = Unit {0}
+  All₂ P (x ∷ xs) [] = Unit {0}
+  All₂ P (x ∷ xs) (y ∷ ys) = P x y × All₂ P xs ys
+
+  -- the lists that f gives of each element, one after the other
+  abbrev pub joined : (A → List B) → List A → List B
+  joined f [] = []
+  joined f (x ∷ xs) = f x ++ joined f xs
+
+-- k, k + 1, .. : n numbers
+abbrev pub from : ℕ → ℕ → List ℕ
+from k zero = []
+from k (suc n) = k ∷ from (suc k) n
+
+-- 0, 1, .. n - 1
+abbrev pub upTo : ℕ → List ℕ
+upTo n = from 0 n
+
+-- how often n stands in a list, and whether it does
+abbrev pub times : ℕ → List ℕ → ℕ
+times n l = count (λ x. eqb x n) l
+
+abbrev pub among : ℕ → List ℕ → Bool
+among n l = any (λ x. eqb x n) l

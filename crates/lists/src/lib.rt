@@ -1,0 +1,1 @@
+// Computing functions on lists and their laws, in specs/. No code.
