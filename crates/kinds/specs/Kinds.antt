@@ -1,0 +1,26 @@
+-- The kinds as the state keeps them (document 01, The store). Every reading is total: where there is no such kind or word it gives 0.
+-- Assumes nothing.
+use mathlib.Core.Bool.{_&&_}
+use mathlib.Core.List.{List}
+use Prim.Native.Nat.{ℕ, _+_, _-_, _*_, min}
+use lib.Dec.{ltb, leb}
+use lib.ListN.{length, getD, set}
+use lib.Seq.{sets}
+use Rattle.lists.specs.Lists.{pick}
+use Rattle.kinds.specs.declared.Kinds.{Kinds}
+
+-- the kinds listed, of which the state has room for 16
+unfoldable pub kindCount : Kinds → ℕ
+kindCount k = min (k .declared) 16
+
+-- how many words an object of kind n has, of which the state has room for 16 marks; 0 where there is no such kind
+unfoldable pub sizeOf : Kinds → ℕ → ℕ
+sizeOf k n = pick (ltb 0 n && leb n (kindCount k)) (min (getD (k .sizes) (n - 1) 0) 16) 0
+
+-- the mark of word w of kind n
+unfoldable pub markAt : Kinds → ℕ → ℕ → ℕ
+markAt k n w = getD (k .marks) (16 * (n - 1) + w) 0
+
+-- one kind more, with the marks ms (document 01, Declare)
+unfoldable pub withKind : Kinds → List ℕ → Kinds
+withKind k ms = record { declared = k .declared + 1; sizes = set (k .sizes) (k .declared) (length ms); marks = sets (k .marks) (16 * k .declared) ms }
