@@ -1,2 +1,6 @@
 -- Laws of the functions of Lists, proved: nothing here has to be believed.
+pub mod Tests
+pub mod Sums
+pub mod All
+pub mod Finds
 pub mod UpTo

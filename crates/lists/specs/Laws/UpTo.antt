@@ -1,13 +1,186 @@
--- Laws of the numbers below n, one number more: what a loop over numbers needs.
+-- Laws of the numbers below n: with one number more, at `n + 1` as code has it and at `suc n`, and by what holds of each of them.
 -- Assumes nothing.
 use mathlib.Core.Path.{_≡_, refl, sym, ap, _∙_}
-use mathlib.Core.Bool.{Bool, true, false, _&&_, _||_}
-use mathlib.Core.List.{List, [], _∷_, _++_, map}
+use mathlib.Core.Logic.{_≢_, _⊎_, inl, inr}
+use mathlib.Core.Bool.{Bool, true, false, _&&_, _||_, and-true, or-false, true≢false}
+use mathlib.Core.List.{List, [], _∷_, _++_, map, append-nil}
 use Prim.Native.Nat.{ℕ, zero, suc, _+_, _<_, _≤_}
+use native.Mathlib.Nat.{le-of-suc-le-suc, not-suc-le-zero}
+use native.Mathlib.Numerals.{add-one}
 use native.Mathlib.Omega.{arith}
-use lib.ListN.{length, getD}
-use Rattle.lists.specs.Lists.{bit, pick, any, every, keep, find, sum, count, joined, from, upTo}
+use lib.Dec.{ltb}
+use lib.ListN.{length, getD, length-map}
+use borrow.Author.Tests.{ltb-true, ltb-false}
+use Rattle.lists.specs.Lists.{bit, pick, any, every, keep, find, sum, count, All, joined, from, upTo}
+use Rattle.lists.specs.Laws.Tests.{by-test, by-same}
+use Rattle.lists.specs.Laws.All.{all-in}
+use Rattle.lists.specs.Laws.Sums.{sum-append, sum-same}
+use Rattle.lists.specs.Laws.Finds.{any-append, any-false, false-any, any-in, every-append, every-true, true-every, keep-append, joined-append, map-append, getD-map-in, find-append, find-none, find-passes, all-found}
 
-pub from-last : (k n : ℕ) → from k (suc n) ≡ from k n ++ ((k + n) ∷ [])
+from-last : (k n : ℕ) → from k (suc n) ≡ from k n ++ ((k + n) ∷ [])
 from-last k zero = let e : k ≡ k + 0 = omega arith in ap (λ x. x ∷ []) e
 from-last k (suc n) = let e : suc k + n ≡ k + suc n = omega arith in ap (λ l. k ∷ l) (from-last (suc k) n ∙ ap (λ x. from (suc k) n ++ (x ∷ [])) e)
+
+pub upTo-suc : (n : ℕ) → upTo (suc n) ≡ upTo n ++ (n ∷ [])
+upTo-suc n = let e : 0 + n ≡ n = omega arith in from-last 0 n ∙ ap (λ x. upTo n ++ (x ∷ [])) e
+
+pub upTo-next : (n : ℕ) → upTo (n + 1) ≡ upTo n ++ (n ∷ [])
+upTo-next n = ap upTo (add-one n) ∙ upTo-suc n
+
+-- ---- one number more
+
+module _ (f : ℕ → ℕ) (n : ℕ) where
+  pub sum-suc : sum f (upTo (suc n)) ≡ sum f (upTo n) + f n
+  sum-suc = ap (sum f) (upTo-suc n) ∙ omega (arith, sum-append f (upTo n) (n ∷ []))
+
+  pub sum-next : sum f (upTo (n + 1)) ≡ sum f (upTo n) + f n
+  sum-next = ap (λ m. sum f (upTo m)) (add-one n) ∙ sum-suc
+
+module _ (f : ℕ → Bool) (n : ℕ) where
+  pub count-suc : count f (upTo (suc n)) ≡ count f (upTo n) + bit (f n)
+  count-suc = sum-suc (λ x. bit (f x)) n
+
+  pub count-next : count f (upTo (n + 1)) ≡ count f (upTo n) + bit (f n)
+  count-next = sum-next (λ x. bit (f x)) n
+
+  pub every-suc : every f (upTo (suc n)) ≡ (every f (upTo n) && f n)
+  every-suc = ap (every f) (upTo-suc n) ∙ every-append f (upTo n) (n ∷ []) ∙ ap (λ b. every f (upTo n) && b) (and-true (f n))
+
+  pub every-next : every f (upTo (n + 1)) ≡ (every f (upTo n) && f n)
+  every-next = ap (λ m. every f (upTo m)) (add-one n) ∙ every-suc
+
+  pub any-suc : any f (upTo (suc n)) ≡ (any f (upTo n) || f n)
+  any-suc = ap (any f) (upTo-suc n) ∙ any-append f (upTo n) (n ∷ []) ∙ ap (λ b. any f (upTo n) || b) (or-false (f n))
+
+  pub any-next : any f (upTo (n + 1)) ≡ (any f (upTo n) || f n)
+  any-next = ap (λ m. any f (upTo m)) (add-one n) ∙ any-suc
+
+  pub keep-suc : keep f (upTo (suc n)) ≡ keep f (upTo n) ++ pick (f n) (n ∷ []) []
+  keep-suc = ap (keep f) (upTo-suc n) ∙ keep-append f (upTo n) (n ∷ [])
+
+  pub keep-next : keep f (upTo (n + 1)) ≡ keep f (upTo n) ++ pick (f n) (n ∷ []) []
+  keep-next = ap (λ m. keep f (upTo m)) (add-one n) ∙ keep-suc
+
+module _ {A : Type 0} where
+  pub joined-suc : (f : ℕ → List A) (n : ℕ) → joined f (upTo (suc n)) ≡ joined f (upTo n) ++ f n
+  joined-suc f n = ap (joined f) (upTo-suc n) ∙ joined-append f (upTo n) (n ∷ []) ∙ ap (λ l. joined f (upTo n) ++ l) (append-nil (f n))
+
+  pub joined-next : (f : ℕ → List A) (n : ℕ) → joined f (upTo (n + 1)) ≡ joined f (upTo n) ++ f n
+  joined-next f n = ap (λ m. joined f (upTo m)) (add-one n) ∙ joined-suc f n
+
+  pub map-suc : (f : ℕ → A) (n : ℕ) → map f (upTo (suc n)) ≡ map f (upTo n) ++ (f n ∷ [])
+  map-suc f n = ap (map f) (upTo-suc n) ∙ map-append f (upTo n) (n ∷ [])
+
+  pub map-next : (f : ℕ → A) (n : ℕ) → map f (upTo (n + 1)) ≡ map f (upTo n) ++ (f n ∷ [])
+  map-next f n = ap (λ m. map f (upTo m)) (add-one n) ∙ map-suc f n
+
+-- ---- the number at each place
+
+length-from : (k n : ℕ) → length (from k n) ≡ n
+length-from k zero = refl
+length-from k (suc n) = ap suc (length-from (suc k) n)
+
+pub length-upTo : (n : ℕ) → length (upTo n) ≡ n
+length-upTo n = length-from 0 n
+
+getD-from : (k n i : ℕ) → i < n → getD (from k n) i 0 ≡ k + i
+getD-from k zero i h = absurd (not-suc-le-zero h)
+getD-from k (suc n) zero h = omega arith
+getD-from k (suc n) (suc i) h = omega (arith, getD-from (suc k) n i (le-of-suc-le-suc h))
+
+pub getD-upTo : (n i : ℕ) → i < n → getD (upTo n) i 0 ≡ i
+getD-upTo n i h = omega (arith, getD-from 0 n i h)
+
+pub getD-map-upTo : {A : Type 0} (f : ℕ → A) (d : A) (n i : ℕ) → i < n → getD (map f (upTo n)) i d ≡ f i
+getD-map-upTo f d n i h = getD-map-in f (upTo n) i d 0 (rw (length-upTo n) h) ∙ ap f (getD-upTo n i h)
+
+pub length-map-upTo : {A : Type 0} (f : ℕ → A) (n : ℕ) → length (map f (upTo n)) ≡ n
+length-map-upTo f n = length-map (upTo n) f ∙ length-upTo n
+
+-- ---- what holds of each number below n
+
+module _ (P : ℕ → Type 0) where
+  all-from : (k n : ℕ) → ((i : ℕ) → k ≤ i → i < k + n → P i) → All P (from k n)
+  all-from k zero h = tt
+  all-from k (suc n) h = (h k (omega arith) (omega arith), all-from (suc k) n (λ i a b. h i (omega arith) (omega arith)))
+
+  pub all-upTo : (n : ℕ) → ((i : ℕ) → i < n → P i) → All P (upTo n)
+  all-upTo n h = all-from 0 n (λ i a b. h i (omega arith))
+
+  pub upTo-all : (n : ℕ) → All P (upTo n) → (i : ℕ) → i < n → P i
+  upTo-all n h i a = rw (getD-upTo n i a) at (all-in P (upTo n) i 0 h (rw (length-upTo n) a))
+
+module _ (f : ℕ → Bool) (n : ℕ) where
+  pub every-each : every f (upTo n) ≡ true → (i : ℕ) → i < n → f i ≡ true
+  every-each e = upTo-all (λ i. f i ≡ true) n (every-true f (upTo n) e)
+
+  pub each-every : ((i : ℕ) → i < n → f i ≡ true) → every f (upTo n) ≡ true
+  each-every h = true-every f (upTo n) (all-upTo (λ i. f i ≡ true) n h)
+
+  pub any-none : any f (upTo n) ≡ false → (i : ℕ) → i < n → f i ≡ false
+  any-none e = upTo-all (λ i. f i ≡ false) n (any-false f (upTo n) e)
+
+  pub none-any : ((i : ℕ) → i < n → f i ≡ false) → any f (upTo n) ≡ false
+  none-any h = false-any f (upTo n) (all-upTo (λ i. f i ≡ false) n h)
+
+  pub any-one : (i : ℕ) → i < n → f i ≡ true → any f (upTo n) ≡ true
+  any-one i h e = any-in f (upTo n) i 0 (rw (length-upTo n) h) (rw (getD-upTo n i h) e)
+
+-- ---- sums of two functions
+
+-- that are equal below n
+pub sum-below : (f g : ℕ → ℕ) (n : ℕ) → ((i : ℕ) → i < n → f i ≡ g i) → sum f (upTo n) ≡ sum g (upTo n)
+sum-below f g n h = sum-same f g (upTo n) (all-upTo (λ i. f i ≡ g i) n h)
+
+-- that differ at k at most
+pub sum-change : (f g : ℕ → ℕ) (n k : ℕ) → k < n → ((i : ℕ) → i < n → i ≢ k → f i ≡ g i) → sum f (upTo n) + g k ≡ sum g (upTo n) + f k
+sum-change f g zero k h same = absurd (not-suc-le-zero h)
+sum-change f g (suc n) k h same = go (by-same k n) (sum-change f g n k)
+  where
+    go : (k ≡ n) ⊎ (k ≢ n) → (k < n → ((i : ℕ) → i < n → i ≢ k → f i ≡ g i) → sum f (upTo n) + g k ≡ sum g (upTo n) + f k)
+        → sum f (upTo (suc n)) + g k ≡ sum g (upTo (suc n)) + f k
+    go (inl e) ih = rw (e, sum-suc f n, sum-suc g n, sum-below f g n (λ i a. same i (omega arith) (λ q. omega arith))) (omega arith)
+    go (inr e) ih = rw (sum-suc f n, sum-suc g n, same n (omega arith) (λ q. e (sym q))) (omega (arith, ih (omega arith) (λ i a. same i (omega arith))))
+
+-- ---- the first number below n that passes
+
+module _ (f : ℕ → Bool) (d : ℕ) where
+  pub find-suc : (n : ℕ) → find f d (upTo (suc n)) ≡ pick (any f (upTo n)) (find f d (upTo n)) (pick (f n) n d)
+  find-suc n = ap (find f d) (upTo-suc n) ∙ find-append f d (upTo n) (n ∷ [])
+
+  pub find-next : (n : ℕ) → find f d (upTo (n + 1)) ≡ pick (any f (upTo n)) (find f d (upTo n)) (pick (f n) n d)
+  find-next n = ap (λ m. find f d (upTo m)) (add-one n) ∙ find-suc n
+
+  -- if one passes, what is found does, and is below n
+  pub find-found : (n : ℕ) → any f (upTo n) ≡ true → (find f d (upTo n) < n) × (f (find f d (upTo n)) ≡ true)
+  find-found n e = (all-found (λ i. i < n) f d (upTo n) (all-upTo (λ i. i < n) n (λ i h. h)) e, find-passes f d (upTo n) e)
+
+  find-from : (k n i : ℕ) → k ≤ i → i < k + n → f i ≡ true → find f d (from k n) ≤ i
+  find-from k zero i a b e = absurd (omega arith)
+  find-from k (suc n) i a b e = go (f k) refl (find-from (suc k) n i)
+    where
+      go : (t : Bool) → f k ≡ t → (suc k ≤ i → i < suc k + n → f i ≡ true → find f d (from (suc k) n) ≤ i) → pick t k (find f d (from (suc k) n)) ≤ i
+      go true q ih = a
+      go false q ih = ih (go₂ (by-same i k)) (omega arith) e
+        where
+          go₂ : (i ≡ k) ⊎ (i ≢ k) → suc k ≤ i
+          go₂ (inl z) = absurd (true≢false (sym e ∙ ap f z ∙ q))
+          go₂ (inr z) = omega arith
+
+  -- none passes before what is found
+  pub find-least : (n i : ℕ) → i < n → f i ≡ true → find f d (upTo n) ≤ i
+  find-least n i h e = find-from 0 n i (omega arith) (omega arith) e
+
+  pub find-before : (n i : ℕ) → i < n → i < find f d (upTo n) → f i ≡ false
+  find-before n i h k = by-test (f i) (λ e. absurd (omega (arith, find-least n i h e))) (λ e. e)
+
+  -- the first that passes is found, and d where none does
+  pub find-first : (n i : ℕ) → i < n → f i ≡ true → ((j : ℕ) → j < i → f j ≡ false) → find f d (upTo n) ≡ i
+  find-first n i h e before = go (ltb (find f d (upTo n)) i) refl
+    where
+      go : (b : Bool) → ltb (find f d (upTo n)) i ≡ b → find f d (upTo n) ≡ i
+      go true q = absurd (true≢false (sym (find-found n (any-one f n i h e) .1) ∙ before (find f d (upTo n)) (ltb-true (find f d (upTo n)) i q)))
+      go false q = omega (arith, ltb-false (find f d (upTo n)) i q, find-least n i h e)
+
+  pub find-default : (n : ℕ) → ((i : ℕ) → i < n → f i ≡ false) → find f d (upTo n) ≡ d
+  find-default n h = find-none f d (upTo n) (none-any f n h)

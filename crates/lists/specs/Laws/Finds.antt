@@ -1,0 +1,179 @@
+-- Laws of `any`, `every`, `find` and `keep`, and so of `among`, which is an `any`.
+-- Assumes nothing.
+use mathlib.Core.Path.{_≡_, refl, sym, ap, _∙_, fun-ext}
+use mathlib.Core.Bool.{Bool, true, false, _&&_, _||_, and-assoc, true≢false, false≢true}
+use mathlib.Core.List.{List, [], _∷_, _++_, map, append-assoc}
+use Prim.Native.Nat.{ℕ, zero, suc, _+_, _<_}
+use native.Mathlib.Nat.{le-of-suc-le-suc, not-suc-le-zero}
+use native.Mathlib.Omega.{arith}
+use lib.Dec.{eqb, ltb}
+use lib.ListN.{length, getD}
+use borrow.Author.Tests.{eqb-true, lt-ltb}
+use Rattle.lists.specs.Lists.{bit, pick, any, every, keep, find, sum, count, times, among, All, joined}
+use Rattle.lists.specs.Laws.Tests.{neither, both, by-test, pick-same}
+use Rattle.lists.specs.Laws.All.{all-in}
+use Rattle.lists.specs.Laws.Sums.{sum-keep, sum-pick}
+
+module _ {A : Type 0} where
+  pub any-append : (f : A → Bool) (l r : List A) → any f (l ++ r) ≡ (any f l || any f r)
+  any-append f [] r = refl
+  any-append f (x ∷ xs) r = go (f x) (any-append f xs r)
+    where
+      go : (b : Bool) → any f (xs ++ r) ≡ (any f xs || any f r) → (b || any f (xs ++ r)) ≡ (b || any f xs || any f r)
+      go true e = refl
+      go false e = e
+
+  pub find-append : (f : A → Bool) (d : A) (l r : List A) → find f d (l ++ r) ≡ pick (any f l) (find f d l) (find f d r)
+  find-append f d [] r = refl
+  find-append f d (x ∷ xs) r = go (f x) (find-append f d xs r)
+    where
+      go : (b : Bool) → find f d (xs ++ r) ≡ pick (any f xs) (find f d xs) (find f d r) → pick b x (find f d (xs ++ r)) ≡ pick (b || any f xs) (pick b x (find f d xs)) (find f d r)
+      go true e = refl
+      go false e = e
+
+  -- what is found passes
+  pub find-passes : (f : A → Bool) (d : A) (l : List A) → any f l ≡ true → f (find f d l) ≡ true
+  find-passes f d [] e = absurd (false≢true e)
+  find-passes f d (x ∷ xs) e = go (f x) refl e (find-passes f d xs)
+    where
+      go : (b : Bool) → f x ≡ b → (b || any f xs) ≡ true → (any f xs ≡ true → f (find f d xs) ≡ true) → f (pick b x (find f d xs)) ≡ true
+      go true q e h = q
+      go false q e h = h e
+
+  pub all-find : (P : A → Type 0) (f : A → Bool) (d : A) (l : List A) → All P l → P d → P (find f d l)
+  all-find P f d [] h p = p
+  all-find P f d (x ∷ xs) h p = go (f x) (all-find P f d xs (h .1) p)
+    where
+      go : (b : Bool) → P (find f d xs) → P (pick b x (find f d xs))
+      go true q = h .0
+      go false q = q
+
+  pub all-found : (P : A → Type 0) (f : A → Bool) (d : A) (l : List A) → All P l → any f l ≡ true → P (find f d l)
+  all-found P f d [] h e = absurd (false≢true e)
+  all-found P f d (x ∷ xs) h e = go (f x) e (all-found P f d xs (h .1))
+    where
+      go : (b : Bool) → (b || any f xs) ≡ true → (any f xs ≡ true → P (find f d xs)) → P (pick b x (find f d xs))
+      go true e k = h .0
+      go false e k = k e
+
+  -- an element that passes f is kept
+  pub any-keep : (f g : A → Bool) → ((x : A) → f x ≡ true → g x ≡ true) → (l : List A) → any f (keep g l) ≡ any f l
+  any-keep f g k [] = refl
+  any-keep f g k (x ∷ xs) = go (g x) refl (f x) refl (any-keep f g k xs)
+    where
+      go : (b : Bool) → g x ≡ b → (c : Bool) → f x ≡ c → any f (keep g xs) ≡ any f xs → any f (pick b (x ∷ keep g xs) (keep g xs)) ≡ (c || any f xs)
+      go true p c q e = rw (q, e)
+      go false p true q e = absurd (false≢true (sym p ∙ k x q))
+      go false p false q e = e
+
+  pub find-keep : (f g : A → Bool) (d : A) → ((x : A) → f x ≡ true → g x ≡ true) → (l : List A) → find f d (keep g l) ≡ find f d l
+  find-keep f g d k [] = refl
+  find-keep f g d k (x ∷ xs) = go (g x) refl (f x) refl (find-keep f g d k xs)
+    where
+      go : (b : Bool) → g x ≡ b → (c : Bool) → f x ≡ c → find f d (keep g xs) ≡ find f d xs → find f d (pick b (x ∷ keep g xs) (keep g xs)) ≡ pick c x (find f d xs)
+      go true p c q e = rw (q, e)
+      go false p true q e = absurd (false≢true (sym p ∙ k x q))
+      go false p false q e = e
+
+  -- nothing that is thrown out is found
+  pub any-thrown : (f g : A → Bool) → ((x : A) → f x ≡ true → g x ≡ false) → (l : List A) → any f (keep g l) ≡ false
+  any-thrown f g k [] = refl
+  any-thrown f g k (x ∷ xs) = go (g x) refl (f x) refl (any-thrown f g k xs)
+    where
+      go : (b : Bool) → g x ≡ b → (c : Bool) → f x ≡ c → any f (keep g xs) ≡ false → any f (pick b (x ∷ keep g xs) (keep g xs)) ≡ false
+      go true p true q e = absurd (true≢false (sym p ∙ k x q))
+      go true p false q e = rw (q, e)
+      go false p c q e = e
+
+  -- what holds of all holds of those kept, which passed
+  pub all-keep : (P : A → Type 0) (g : A → Bool) (l : List A) → All P l → All (λ x. P x × (g x ≡ true)) (keep g l)
+  all-keep P g [] h = tt
+  all-keep P g (x ∷ xs) h = go (g x) refl (all-keep P g xs (h .1))
+    where
+      go : (b : Bool) → g x ≡ b → All (λ x. P x × (g x ≡ true)) (keep g xs) → All (λ x. P x × (g x ≡ true)) (pick b (x ∷ keep g xs) (keep g xs))
+      go true q t = ((h .0, q), t)
+      go false q t = t
+
+  pub every-append : (f : A → Bool) (l r : List A) → every f (l ++ r) ≡ (every f l && every f r)
+  every-append f [] r = refl
+  every-append f (x ∷ xs) r = rw (every-append f xs r) (sym (and-assoc (f x) (every f xs) (every f r)))
+
+  pub keep-append : (f : A → Bool) (l r : List A) → keep f (l ++ r) ≡ keep f l ++ keep f r
+  keep-append f [] r = refl
+  keep-append f (x ∷ xs) r = go (f x) (keep-append f xs r)
+    where
+      go : (b : Bool) → keep f (xs ++ r) ≡ keep f xs ++ keep f r → pick b (x ∷ keep f (xs ++ r)) (keep f (xs ++ r)) ≡ pick b (x ∷ keep f xs) (keep f xs) ++ keep f r
+      go true e = ap (λ l. x ∷ l) e
+      go false e = e
+
+  -- the tests over a list and what they say of its elements
+  pub any-false : (f : A → Bool) (l : List A) → any f l ≡ false → All (λ x. f x ≡ false) l
+  any-false f [] e = tt
+  any-false f (x ∷ xs) e = let q = neither (f x) (any f xs) e in (q .0, any-false f xs (q .1))
+
+  pub false-any : (f : A → Bool) (l : List A) → All (λ x. f x ≡ false) l → any f l ≡ false
+  false-any f [] h = refl
+  false-any f (x ∷ xs) h = rw (h .0, false-any f xs (h .1))
+
+  pub every-true : (f : A → Bool) (l : List A) → every f l ≡ true → All (λ x. f x ≡ true) l
+  every-true f [] e = tt
+  every-true f (x ∷ xs) e = let q = both (f x) (every f xs) e in (q .0, every-true f xs (q .1))
+
+  pub true-every : (f : A → Bool) (l : List A) → All (λ x. f x ≡ true) l → every f l ≡ true
+  true-every f [] h = refl
+  true-every f (x ∷ xs) h = rw (h .0, true-every f xs (h .1))
+
+  -- an element that passes
+  pub any-in : (f : A → Bool) (l : List A) (i : ℕ) (d : A) → i < length l → f (getD l i d) ≡ true → any f l ≡ true
+  any-in f l i d h e = by-test (any f l) (λ t. t) (λ t. absurd (true≢false (sym e ∙ all-in (λ x. f x ≡ false) l i d (any-false f l t) h)))
+
+  pub find-none : (f : A → Bool) (d : A) (l : List A) → any f l ≡ false → find f d l ≡ d
+  find-none f d [] e = refl
+  find-none f d (x ∷ xs) e = let q = neither (f x) (any f xs) e in rw (q .0, find-none f d xs (q .1))
+
+  -- some element passes where their number is not 0
+  pub any-count : (f : A → Bool) (l : List A) → any f l ≡ ltb 0 (count f l)
+  any-count f [] = refl
+  any-count f (x ∷ xs) = go (f x) (any-count f xs)
+    where
+      go : (b : Bool) → any f xs ≡ ltb 0 (count f xs) → (b || any f xs) ≡ ltb 0 (bit b + count f xs)
+      go true e = sym (lt-ltb 0 (1 + count f xs) (omega arith))
+      go false e = let z : 0 + count f xs ≡ count f xs = omega arith in rw z e
+
+module _ {A B : Type 0} where
+  pub any-map : (f : B → Bool) (g : A → B) (l : List A) → any f (map g l) ≡ any (λ x. f (g x)) l
+  any-map f g [] = refl
+  any-map f g (x ∷ xs) = ap (λ b. f (g x) || b) (any-map f g xs)
+
+  pub any-joined : (f : B → Bool) (g : A → List B) (l : List A) → any f (joined g l) ≡ any (λ x. any f (g x)) l
+  any-joined f g [] = refl
+  any-joined f g (x ∷ xs) = any-append f (g x) (joined g xs) ∙ ap (λ b. any f (g x) || b) (any-joined f g xs)
+
+  pub joined-append : (g : A → List B) (l r : List A) → joined g (l ++ r) ≡ joined g l ++ joined g r
+  joined-append g [] r = refl
+  joined-append g (x ∷ xs) r = rw (joined-append g xs r) (sym (append-assoc (g x) (joined g xs) (joined g r)))
+
+  pub map-append : (g : A → B) (l r : List A) → map g (l ++ r) ≡ map g l ++ map g r
+  map-append g [] r = refl
+  map-append g (x ∷ xs) r = ap (λ l. g x ∷ l) (map-append g xs r)
+
+  -- any default will do where the place is in the list
+  pub getD-map-in : (g : A → B) (l : List A) (i : ℕ) (d : B) (e : A) → i < length l → getD (map g l) i d ≡ g (getD l i e)
+  getD-map-in g [] i d e h = absurd (not-suc-le-zero h)
+  getD-map-in g (x ∷ xs) zero d e h = refl
+  getD-map-in g (x ∷ xs) (suc i) d e h = getD-map-in g xs i d e (le-of-suc-le-suc h)
+
+-- a number is kept if it passes
+pub times-keep : (n : ℕ) (f : ℕ → Bool) (l : List ℕ) → times n (keep f l) ≡ pick (f n) (times n l) 0
+times-keep n f l = sum-keep (λ x. bit (eqb x n)) f l ∙ ap (λ g. sum g l) (fun-ext (λ x. go x (eqb x n) refl)) ∙ sum-pick (f n) (λ x. bit (eqb x n)) l
+  where
+    go : (x : ℕ) (b : Bool) → eqb x n ≡ b → pick (f x) (bit (eqb x n)) 0 ≡ pick (f n) (bit (eqb x n)) 0
+    go x true e = rw (eqb-true x n e)
+    go x false e = rw (e, pick-same {A = ℕ} (f x) 0, pick-same {A = ℕ} (f n) 0)
+
+pub among-keep : (n : ℕ) (f : ℕ → Bool) (l : List ℕ) → among n (keep f l) ≡ (f n && among n l)
+among-keep n f l = rw (any-count (λ x. eqb x n) (keep f l), times-keep n f l, any-count (λ x. eqb x n) l) (go (f n))
+  where
+    go : (b : Bool) → ltb 0 (pick b (times n l) 0) ≡ (b && ltb 0 (times n l))
+    go true = refl
+    go false = refl

@@ -1,0 +1,101 @@
+-- Laws of sums, and so of `count` and `times`, which are sums of bits.
+-- Assumes nothing.
+use mathlib.Core.Path.{_≡_, refl, ap, ap₂}
+use mathlib.Core.Bool.{Bool, true, false}
+use mathlib.Core.List.{List, [], _∷_, _++_, map}
+use Prim.Native.Nat.{ℕ, zero, suc, _+_, _≤_, _<_}
+use native.Mathlib.Nat.{le-of-suc-le-suc, not-suc-le-zero}
+use native.Mathlib.Omega.{arith}
+use lib.ListN.{length, getD, set, take, drop, replicate}
+use Rattle.lists.specs.Lists.{bit, pick, keep, sum, sum₂, count, All, All₂, joined}
+
+module _ {A : Type 0} where
+  -- one element replaced: the new one comes in, the old one goes out
+  pub sum-set : (f : A → ℕ) (l : List A) (i : ℕ) (y d : A) → i < length l → sum f (set l i y) + f (getD l i d) ≡ sum f l + f y
+  sum-set f [] i y d h = absurd (not-suc-le-zero h)
+  sum-set f (x ∷ xs) zero y d h = omega arith
+  sum-set f (x ∷ xs) (suc i) y d h = omega (arith, sum-set f xs i y d (le-of-suc-le-suc h))
+
+  pub sum-append : (f : A → ℕ) (l r : List A) → sum f (l ++ r) ≡ sum f l + sum f r
+  sum-append f [] r = omega arith
+  sum-append f (x ∷ xs) r = omega (arith, sum-append f xs r)
+
+  pub sum-split : (f : A → ℕ) (n : ℕ) (l : List A) → sum f l ≡ sum f (take n l) + sum f (drop n l)
+  sum-split f zero l = omega arith
+  sum-split f (suc n) [] = refl
+  sum-split f (suc n) (x ∷ xs) = omega (arith, sum-split f n xs)
+
+  pub sum-plus : (f g : A → ℕ) (l : List A) → sum (λ x. f x + g x) l ≡ sum f l + sum g l
+  sum-plus f g [] = refl
+  sum-plus f g (x ∷ xs) = omega (arith, sum-plus f g xs)
+
+  pub sum-zero : (f : A → ℕ) (l : List A) → sum f l ≡ 0 → All (λ x. f x ≡ 0) l
+  sum-zero f [] e = tt
+  sum-zero f (x ∷ xs) e = (omega arith, sum-zero f xs (omega arith))
+
+  -- functions that agree on the list's elements
+  pub sum-same : (f g : A → ℕ) (l : List A) → All (λ x. f x ≡ g x) l → sum f l ≡ sum g l
+  sum-same f g [] h = refl
+  sum-same f g (x ∷ xs) h = ap₂ _+_ (h .0) (sum-same f g xs (h .1))
+
+  -- a test that does not look at the elements
+  pub sum-pick : (b : Bool) (f : A → ℕ) (l : List A) → sum (λ x. pick b (f x) 0) l ≡ pick b (sum f l) 0
+  sum-pick true f l = refl
+  sum-pick false f [] = refl
+  sum-pick false f (x ∷ xs) = omega (arith, sum-pick false f xs)
+
+  -- only those kept are added up
+  pub sum-keep : (f : A → ℕ) (g : A → Bool) (l : List A) → sum f (keep g l) ≡ sum (λ x. pick (g x) (f x) 0) l
+  sum-keep f g [] = refl
+  sum-keep f g (x ∷ xs) = go (g x) (sum-keep f g xs)
+    where
+      go : (b : Bool) → sum f (keep g xs) ≡ sum (λ x. pick (g x) (f x) 0) xs → sum f (pick b (x ∷ keep g xs) (keep g xs)) ≡ pick b (f x) 0 + sum (λ x. pick (g x) (f x) 0) xs
+      go true e = ap (λ n. f x + n) e
+      go false e = omega arith
+
+  pub length-keep : (f : A → Bool) (l : List A) → length (keep f l) ≡ count f l
+  length-keep f [] = refl
+  length-keep f (x ∷ xs) = go (f x) (length-keep f xs)
+    where
+      go : (b : Bool) → length (keep f xs) ≡ count f xs → length (pick b (x ∷ keep f xs) (keep f xs)) ≡ bit b + count f xs
+      go true e = omega arith
+      go false e = omega arith
+
+  pub count-most : (f : A → Bool) (l : List A) → count f l ≤ length l
+  count-most f [] = omega arith
+  count-most f (x ∷ xs) = go (f x) (count-most f xs)
+    where
+      go : (b : Bool) → count f xs ≤ length xs → bit b + count f xs ≤ suc (length xs)
+      go true h = omega arith
+      go false h = omega arith
+
+module _ {A B : Type 0} where
+  pub sum-map : (f : B → ℕ) (g : A → B) (l : List A) → sum f (map g l) ≡ sum (λ x. f (g x)) l
+  sum-map f g [] = refl
+  sum-map f g (x ∷ xs) = ap (λ n. f (g x) + n) (sum-map f g xs)
+
+  pub sum-joined : (f : B → ℕ) (g : A → List B) (l : List A) → sum f (joined g l) ≡ sum (λ x. sum f (g x)) l
+  sum-joined f g [] = refl
+  sum-joined f g (x ∷ xs) = omega (arith, sum-append f (g x) (joined g xs), sum-joined f g xs)
+
+  pub sum₂-zero : (f : A → B → ℕ) (xs : List A) (ys : List B) → sum₂ f xs ys ≡ 0 → All₂ (λ x y. f x y ≡ 0) xs ys
+  sum₂-zero f [] ys e = tt
+  sum₂-zero f (x ∷ xs) [] e = tt
+  sum₂-zero f (x ∷ xs) (y ∷ ys) e = (omega arith, sum₂-zero f xs ys (omega arith))
+
+  pub sum₂-set : (f : A → B → ℕ) (xs : List A) (ys : List B) (i : ℕ) (y : B) (d : A) (e : B) → i < length xs → i < length ys
+      → sum₂ f xs (set ys i y) + f (getD xs i d) (getD ys i e) ≡ sum₂ f xs ys + f (getD xs i d) y
+  sum₂-set f [] ys i y d e h k = absurd (not-suc-le-zero h)
+  sum₂-set f (x ∷ xs) [] i y d e h k = absurd (not-suc-le-zero k)
+  sum₂-set f (x ∷ xs) (z ∷ ys) zero y d e h k = omega arith
+  sum₂-set f (x ∷ xs) (z ∷ ys) (suc i) y d e h k = omega (arith, sum₂-set f xs ys i y d e (le-of-suc-le-suc h) (le-of-suc-le-suc k))
+
+  pub sum₂-same : (f g : A → B → ℕ) (xs : List A) (ys : List B) → All₂ (λ x y. f x y ≡ g x y) xs ys → sum₂ f xs ys ≡ sum₂ g xs ys
+  sum₂-same f g [] ys h = refl
+  sum₂-same f g (x ∷ xs) [] h = refl
+  sum₂-same f g (x ∷ xs) (y ∷ ys) h = ap₂ _+_ (h .0) (sum₂-same f g xs ys (h .1))
+
+  pub sum₂-none : (f : A → B → ℕ) (xs : List A) (n : ℕ) (y : B) → ((x : A) → f x y ≡ 0) → sum₂ f xs (replicate n y) ≡ 0
+  sum₂-none f [] n y h = refl
+  sum₂-none f (x ∷ xs) zero y h = refl
+  sum₂-none f (x ∷ xs) (suc n) y h = omega (arith, h x, sum₂-none f xs n y h)

@@ -1,0 +1,255 @@
+-- The calls on the reference model: why each is refused, what it answers and what it leaves. It computes.
+-- Assumes nothing.
+use mathlib.Core.Bool.{Bool, not, _&&_, _||_}
+use mathlib.Core.List.{List, [], _∷_, _++_, map}
+use Prim.Native.Nat.{ℕ, zero, suc, _+_, _-_, _%_}
+use lib.Dec.{eqb, ltb, leb}
+use lib.ListN.{length, getD, set, take, replicate}
+use Rattle.lists.specs.Lists.{bit, pick, any, every, keep}
+use Rattle.model.specs.Model.{Call, declare, newRegion, subregion, push, dropFrame, handBack, allocate, first, copy, fetch, clear, load, setPointer, put, get, view, same, about, report, totals, audit, delete}
+use Rattle.model.specs.Model.{Region, Object, Model, Answer, four, gives, refusedBy, called, region, marks, livesIn, homeIn, parentIn, last, top, beneath, slot, held, heldMarks, markAt}
+use Rattle.model.specs.Model.{inFrames, fromObject, inWords, outside, stored, subregions, allowed}
+
+-- ---- Refusals (document 01, The calls)
+
+-- tests in order, each with the number that refuses; the first that holds decides, and 0 accepts
+infix 68 _⇒_
+abbrev pub _⇒_ : Bool → ℕ → Bool × ℕ
+b ⇒ n = (b, n)
+
+abbrev pub reason : List (Bool × ℕ) → ℕ
+reason [] = 0
+reason (t ∷ ts) = pick (t .0) (t .1) (reason ts)
+
+-- frame f has no slot s
+abbrev pub lacks : List ℕ → ℕ → Bool
+lacks f s = leb (length f) s
+
+abbrev pub noFrame : Model → Bool
+noFrame L = eqb (length (L .frames)) 0
+
+abbrev pub oneFrame : Model → Bool
+oneFrame L = ltb (length (L .frames)) 2
+
+-- slot s is null; the object in it has no word w
+abbrev pub null : Model → ℕ → Bool
+null L s = eqb (slot L s) 0
+
+abbrev pub noWord : Model → ℕ → ℕ → Bool
+noWord L s w = leb (length ((held L s) .words)) w
+
+abbrev pub dead : Model → ℕ → Bool
+dead L r = not (livesIn L r)
+
+-- the words that an object of kind k takes, its header too, and whether n words fit the newest page of g
+abbrev pub size : Model → ℕ → ℕ
+size L k = length (marks (L .kinds) k) + 1
+
+abbrev pub fits : Region → ℕ → Bool
+fits g n = leb n (g .room)
+
+unfoldable pub checks : Model → Call → List (Bool × ℕ)
+checks L (declare ms) = (eqb (length ms) 0 || ltb 16 (length ms) || any (ltb 4) ms) ⇒ 11 ∷ leb 16 (length (L .kinds)) ⇒ 10 ∷ []
+checks L newRegion = leb 64 (length (L .regions)) ⇒ 4 ∷ leb 1000000 (L .given) ⇒ 5 ∷ []
+checks L (subregion r) = dead L r ⇒ 2 ∷ leb 16 ((region (L .regions) r) .level) ⇒ 20 ∷ leb 64 (length (L .regions)) ⇒ 4 ∷ leb 1000000 (L .given) ⇒ 5 ∷ []
+checks L (push n) = (eqb n 0 || ltb 8 n) ⇒ 8 ∷ leb 32 (length (L .frames)) ⇒ 7 ∷ []
+checks L dropFrame = noFrame L ⇒ 6 ∷ []
+checks L (handBack s b) = oneFrame L ⇒ 6 ∷ (lacks (top L) s || lacks (beneath L) b) ⇒ 9 ∷ []
+checks L (allocate s r k) =
+    noFrame L ⇒ 6 ∷ lacks (top L) s ⇒ 9 ∷ dead L r ⇒ 2 ∷ (eqb k 0 || ltb (length (L .kinds)) k) ⇒ 12
+    ∷ (not (fits (region (L .regions) r) (size L k)) && eqb (L .free) 0) ⇒ 13 ∷ []
+checks L (first s r) = noFrame L ⇒ 6 ∷ lacks (top L) s ⇒ 9 ∷ dead L r ⇒ 2 ∷ []
+checks L (copy s t) = noFrame L ⇒ 6 ∷ (lacks (top L) s || lacks (top L) t) ⇒ 9 ∷ []
+checks L (fetch b s) = oneFrame L ⇒ 6 ∷ (lacks (beneath L) b || lacks (top L) s) ⇒ 9 ∷ []
+checks L (clear s) = noFrame L ⇒ 6 ∷ lacks (top L) s ⇒ 9 ∷ []
+checks L (load s w t) = noFrame L ⇒ 6 ∷ (lacks (top L) s || lacks (top L) t) ⇒ 9 ∷ null L s ⇒ 14 ∷ noWord L s w ⇒ 15 ∷ eqb (markAt L s w) 0 ⇒ 16 ∷ []
+checks L (setPointer s w v) =
+    noFrame L ⇒ 6 ∷ (lacks (top L) s || lacks (top L) v) ⇒ 9 ∷ null L s ⇒ 14 ∷ noWord L s w ⇒ 15 ∷ eqb (markAt L s w) 0 ⇒ 16
+    ∷ not (allowed (parentIn L) (homeIn L) ((held L s) .home) (markAt L s w) (slot L v)) ⇒ 17 ∷ []
+checks L (put s w x) = noFrame L ⇒ 6 ∷ lacks (top L) s ⇒ 9 ∷ null L s ⇒ 14 ∷ noWord L s w ⇒ 15 ∷ not (eqb (markAt L s w) 0) ⇒ 16 ∷ []
+checks L (get s w) = noFrame L ⇒ 6 ∷ lacks (top L) s ⇒ 9 ∷ null L s ⇒ 14 ∷ noWord L s w ⇒ 15 ∷ not (eqb (markAt L s w) 0) ⇒ 16 ∷ []
+checks L (view s) = noFrame L ⇒ 6 ∷ lacks (top L) s ⇒ 9 ∷ null L s ⇒ 14 ∷ not (every (eqb 0) (heldMarks L s)) ⇒ 16 ∷ []
+checks L (same s t) = noFrame L ⇒ 6 ∷ (lacks (top L) s || lacks (top L) t) ⇒ 9 ∷ []
+checks L (about s) = noFrame L ⇒ 6 ∷ lacks (top L) s ⇒ 9 ∷ []
+checks L (report r) = dead L r ⇒ 2 ∷ []
+checks L totals = []
+checks L audit = []
+checks L (delete r) = dead L r ⇒ 2 ∷ eqb r 1 ⇒ 3 ∷ not (eqb (subregions L r) 0) ⇒ 18 ∷ not (eqb (outside L r) 0) ⇒ 19 ∷ []
+
+unfoldable pub refusal : Model → Call → ℕ
+refusal L c = reason (checks L c)
+
+-- ---- What an accepted call answers
+
+unfoldable pub reply : Model → Call → Answer
+reply L (declare ms) = gives ((length (L .kinds) + 1) ∷ [])
+reply L newRegion = gives ((L .given + 1) ∷ [])
+reply L (subregion r) = gives ((L .given + 1) ∷ [])
+reply L (push n) = gives ((length (L .frames) + 1) ∷ [])
+reply L dropFrame = gives (last (L .frames) ∷ [])
+reply L (handBack s b) = gives (last (L .frames) ∷ [])
+reply L (allocate s r k) = gives []
+reply L (first s r) = gives []
+reply L (copy s t) = gives []
+reply L (fetch b s) = gives []
+reply L (clear s) = gives []
+reply L (load s w t) = gives []
+reply L (setPointer s w v) = gives []
+reply L (put s w x) = gives []
+reply L (get s w) = gives (getD ((held L s) .words) w 0 ∷ [])
+reply L (view s) = record { refusal = 0; values = four []; part = (held L s) .words }
+reply L (same s t) = gives (bit (eqb (slot L s) (slot L t)) ∷ [])
+reply L (about s) = gives ((held L s) .home ∷ (held L s) .kind ∷ [])
+reply L (report r) = gives (stored L r ∷ outside L r ∷ (region (L .regions) r) .pages ∷ subregions L r ∷ [])
+reply L totals = gives (L .free ∷ length (L .regions) ∷ length (L .frames) ∷ L .counted ∷ [])
+reply L audit = gives (1 ∷ [])
+reply L (delete r) = gives ((region (L .regions) r) .pages ∷ [])
+
+-- ---- What an accepted call leaves
+
+abbrev pub withKinds : Model → List (List ℕ) → Model
+withKinds L ks = record { free = L .free; kinds = ks; regions = L .regions; frames = L .frames; counted = L .counted; given = L .given; objects = L .objects }
+
+abbrev pub withFrames : Model → List (List ℕ) → ℕ → Model
+withFrames L fs m = record { free = L .free; kinds = L .kinds; regions = L .regions; frames = fs; counted = m; given = L .given; objects = L .objects }
+
+abbrev pub withObjects : Model → List Object → Model
+withObjects L os = record { free = L .free; kinds = L .kinds; regions = L .regions; frames = L .frames; counted = L .counted; given = L .given; objects = os }
+
+-- slot s of the top frame gets p
+unfoldable pub fillSlot : Model → ℕ → ℕ → Model
+fillSlot L s p = withFrames L (set (L .frames) (last (L .frames)) (set (top L) s p)) (L .counted)
+
+-- the top frame goes, and m falls by one if the frame that is then on top was counted (document 01, The store)
+unfoldable pub popFrame : Model → Model
+popFrame L =
+    let n = last (L .frames) in
+    withFrames L (take n (L .frames)) (pick (leb n (L .counted)) (L .counted - 1) (L .counted))
+
+-- object p becomes o; null stays
+abbrev pub replaced : List Object → ℕ → Object → List Object
+replaced os zero o = os
+replaced os (suc i) o = set os i o
+
+abbrev pub withWord : Object → ℕ → ℕ → Object
+withWord o w x = record { home = o .home; kind = o .kind; words = set (o .words) w x }
+
+-- word w of the object in slot s gets x
+unfoldable pub writeWord : Model → ℕ → ℕ → ℕ → Model
+writeWord L s w x = withObjects L (replaced (L .objects) (slot L s) (withWord (held L s) w x))
+
+-- a region below region r, or below none, with the next name
+unfoldable pub addRegion : Model → ℕ → ℕ → Model
+addRegion L r l = record {
+  free = L .free;
+  kinds = L .kinds;
+  regions = L .regions ++ (record { name = L .given + 1; parent = r; level = l; pages = 0; room = 0; oldest = 0 } ∷ []);
+  frames = L .frames;
+  counted = L .counted;
+  given = L .given + 1;
+  objects = L .objects;
+}
+
+-- region g with one more object, of n words with its header and with the id i: in the newest page where it fits, else in a page that was free
+unfoldable pub grown : ℕ → ℕ → Region → Region
+grown n i g = record {
+  name = g .name;
+  parent = g .parent;
+  level = g .level;
+  pages = pick (fits g n) (g .pages) (g .pages + 1);
+  room = pick (fits g n) (g .room - n) (64 - n);
+  oldest = pick (eqb (g .oldest) 0) i (g .oldest);
+}
+
+-- an object of kind k in region r, all of its words 0
+unfoldable pub addObject : Model → ℕ → ℕ → Model
+addObject L r k =
+    let n = size L k in
+    let i = length (L .objects) + 1 in
+    record {
+      free = pick (fits (region (L .regions) r) n) (L .free) (L .free - 1);
+      kinds = L .kinds;
+      regions = map (λ g. pick (called r g) (grown n i g) g) (L .regions);
+      frames = L .frames;
+      counted = L .counted;
+      given = L .given;
+      objects = L .objects ++ (record { home = r; kind = k; words = replicate (length (marks (L .kinds) k)) 0 } ∷ []);
+    }
+
+-- region r goes, its pages are free again, and all frames but the top one are counted (document 01, Delete)
+unfoldable pub removeRegion : Model → ℕ → Model
+removeRegion L r = record {
+  free = L .free + (region (L .regions) r) .pages;
+  kinds = L .kinds;
+  regions = keep (λ g. not (called r g)) (L .regions);
+  frames = L .frames;
+  counted = last (L .frames);
+  given = L .given;
+  objects = L .objects;
+}
+
+unfoldable pub accepted : Model → Call → Model
+accepted L (declare ms) = withKinds L (L .kinds ++ (ms ∷ []))
+accepted L newRegion = addRegion L 0 1
+accepted L (subregion r) = addRegion L r ((region (L .regions) r) .level + 1)
+accepted L (push n) = withFrames L (L .frames ++ (replicate n 0 ∷ [])) (L .counted)
+accepted L dropFrame = popFrame L
+accepted L (handBack s b) = fillSlot (popFrame L) b (slot L s)
+accepted L (allocate s r k) = fillSlot (addObject L r k) s (length (L .objects) + 1)
+accepted L (first s r) = fillSlot L s ((region (L .regions) r) .oldest)
+accepted L (copy s t) = fillSlot L t (slot L s)
+accepted L (fetch b s) = fillSlot L s (getD (beneath L) b 0)
+accepted L (clear s) = fillSlot L s 0
+accepted L (load s w t) = fillSlot L t (getD ((held L s) .words) w 0)
+accepted L (setPointer s w v) = writeWord L s w (slot L v)
+accepted L (put s w x) = writeWord L s w x
+accepted L (get s w) = L
+accepted L (view s) = L
+accepted L (same s t) = L
+accepted L (about s) = L
+accepted L (report r) = L
+accepted L totals = L
+accepted L audit = L
+accepted L (delete r) = removeRegion L r
+
+-- ---- Each call, and lists of calls. A refused call answers its number and changes nothing
+
+abbrev pub answerBy : ℕ → Model → Call → Answer
+answerBy zero L c = reply L c
+answerBy (suc n) L c = refusedBy (suc n)
+
+unfoldable pub answer : Model → Call → Answer
+answer L c = answerBy (refusal L c) L c
+
+abbrev pub nextBy : ℕ → Model → Call → Model
+nextBy zero L c = accepted L c
+nextBy (suc n) L c = L
+
+unfoldable pub next : Model → Call → Model
+next L c = nextBy (refusal L c) L c
+
+-- what a list of calls answers, and the model that it leaves
+unfoldable pub run : Model → List Call → List Answer
+unfolding answer next refusal checks reply accepted fillSlot popFrame writeWord addRegion addObject grown removeRegion outside stored inWords inFrames fromObject allowed
+run L [] = []
+run L (c ∷ cs) = answer L c ∷ run (next L c) cs
+
+abbrev pub after : Model → List Call → Model
+after L [] = L
+after L (c ∷ cs) = after (next L c) cs
+
+-- ---- Make (document 01, The calls): it accepts 64 times 1 to 256 words, and leaves n free pages and region 1
+
+abbrev pub makes : ℕ → Bool
+makes w = eqb (w % 64) 0 && leb 64 w && leb w 16384
+
+abbrev pub fresh : ℕ → Model
+fresh n = record {
+  free = n;
+  kinds = [];
+  regions = record { name = 1; parent = 0; level = 1; pages = 0; room = 0; oldest = 0 } ∷ [];
+  frames = [];
+  counted = 0;
+  given = 1;
+  objects = [];
+}

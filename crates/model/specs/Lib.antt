@@ -1,0 +1,4 @@
+pub mod Model
+pub mod Calls
+pub mod Sessions
+pub mod Laws

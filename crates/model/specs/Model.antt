@@ -1,0 +1,185 @@
+-- The reference model: what a store of regions is, and how the pointers into a region are counted. It computes.
+-- An object is known by its id, 1, 2, .. in the order made; 0 is null. Pages are only counted. No count of pointers is kept: each is counted when asked for.
+-- Assumes nothing.
+use mathlib.Core.Bool.{Bool, true, false, not, _&&_, _||_}
+use mathlib.Core.List.{List, [], _∷_}
+use Prim.Native.Nat.{ℕ, _+_, _-_}
+use lib.Dec.{eqb}
+use lib.ListN.{length, getD, take}
+use Rattle.lists.specs.Lists.{bit, pick, any, find, sum, sum₂, count}
+
+-- A live region: the region directly above it (0: none), its pages, the words left in the newest one and its oldest object (0: none).
+pub record Region : Type 0 where
+  pub name : ℕ
+  pub parent : ℕ
+  pub level : ℕ
+  pub pages : ℕ
+  pub room : ℕ
+  pub oldest : ℕ
+
+-- An object: its region, the number of its kind and its words. A word holds data or an id, by its mark.
+pub record Object : Type 0 where
+  pub home : ℕ
+  pub kind : ℕ
+  pub words : List ℕ
+
+-- The free pages; the marks of each kind; the live regions; the frames, lowest first; how many of these are counted, document 01's m;
+-- the last name given; and all objects ever made, oldest first. Those of deleted regions stay in the list, dead.
+pub record Model : Type 0 where
+  pub free : ℕ
+  pub kinds : List (List ℕ)
+  pub regions : List Region
+  pub frames : List (List ℕ)
+  pub counted : ℕ
+  pub given : ℕ
+  pub objects : List Object
+
+-- The calls numbered 2 to 23, in that order, each with its arguments in document 01's order.
+pub data Call : Type 0 where
+  declare : List ℕ → Call
+  newRegion : Call
+  subregion : ℕ → Call
+  push : ℕ → Call
+  dropFrame : Call
+  handBack : ℕ → ℕ → Call
+  allocate : ℕ → ℕ → ℕ → Call
+  first : ℕ → ℕ → Call
+  copy : ℕ → ℕ → Call
+  fetch : ℕ → ℕ → Call
+  clear : ℕ → Call
+  load : ℕ → ℕ → ℕ → Call
+  setPointer : ℕ → ℕ → ℕ → Call
+  put : ℕ → ℕ → ℕ → Call
+  get : ℕ → ℕ → Call
+  view : ℕ → Call
+  same : ℕ → ℕ → Call
+  about : ℕ → Call
+  report : ℕ → Call
+  totals : Call
+  audit : Call
+  delete : ℕ → Call
+
+-- What a call answers: the number of its refusal, 0 if accepted; four values, 0 where there is none; and the words that view hands back.
+pub record Answer : Type 0 where
+  pub refusal : ℕ
+  pub values : List ℕ
+  pub part : List ℕ
+
+abbrev pub four : List ℕ → List ℕ
+four v = getD v 0 0 ∷ getD v 1 0 ∷ getD v 2 0 ∷ getD v 3 0 ∷ []
+
+abbrev pub gives : List ℕ → Answer
+gives v = record { refusal = 0; values = four v; part = [] }
+
+abbrev pub refusedBy : ℕ → Answer
+refusedBy n = record { refusal = n; values = four []; part = [] }
+
+-- ---- Lookups. What is not there reads as nothing: no live region has the name 0, and null leads to no object
+
+abbrev pub noRegion : Region
+noRegion = record { name = 0; parent = 0; level = 0; pages = 0; room = 0; oldest = 0 }
+
+abbrev pub noObject : Object
+noObject = record { home = 0; kind = 0; words = [] }
+
+abbrev pub called : ℕ → Region → Bool
+called r g = eqb (g .name) r
+
+-- whether a region of the list has the name r, that region, and the name of the region above it
+abbrev pub live : List Region → ℕ → Bool
+live gs r = any (called r) gs
+
+abbrev pub region : List Region → ℕ → Region
+region gs r = find (called r) noRegion gs
+
+abbrev pub parentOf : List Region → ℕ → ℕ
+parentOf gs r = (region gs r) .parent
+
+-- the object that pointer p leads to, its region, and the marks of kind k
+abbrev pub object : List Object → ℕ → Object
+object os p = getD (noObject ∷ os) p noObject
+
+abbrev pub homeOf : List Object → ℕ → ℕ
+homeOf os p = (object os p) .home
+
+abbrev pub marks : List (List ℕ) → ℕ → List ℕ
+marks ks k = getD ([] ∷ ks) k []
+
+-- the same of a whole model: the regions that live, the region a pointer leads into, and the region above one
+abbrev pub livesIn : Model → ℕ → Bool
+livesIn L = live (L .regions)
+
+abbrev pub homeIn : Model → ℕ → ℕ
+homeIn L = homeOf (L .objects)
+
+abbrev pub parentIn : Model → ℕ → ℕ
+parentIn L = parentOf (L .regions)
+
+-- the place of the top frame, which is also the number of frames that stand without it
+abbrev pub last : List (List ℕ) → ℕ
+last fs = length fs - 1
+
+abbrev pub top : Model → List ℕ
+top L = getD (L .frames) (last (L .frames)) []
+
+abbrev pub beneath : Model → List ℕ
+beneath L = getD (L .frames) (length (L .frames) - 2) []
+
+-- slot s of the top frame, the object it leads to, that object's marks, and the mark of its word w
+abbrev pub slot : Model → ℕ → ℕ
+slot L s = getD (top L) s 0
+
+abbrev pub held : Model → ℕ → Object
+held L s = object (L .objects) (slot L s)
+
+abbrev pub heldMarks : Model → ℕ → List ℕ
+heldMarks L s = marks (L .kinds) ((held L s) .kind)
+
+abbrev pub markAt : Model → ℕ → ℕ → ℕ
+markAt L s w = getD (heldMarks L s) w 0
+
+-- ---- Outside pointers of region r (document 01, The store). `lives` tells the live regions, `home` the region that a pointer leads into
+
+-- 1 for a pointer into r
+abbrev pub into : (ℕ → ℕ) → ℕ → ℕ → ℕ
+into home r p = bit (eqb (home p) r)
+
+-- all slots of the frames fs that lead into r
+unfoldable pub inFrames : (ℕ → ℕ) → ℕ → List (List ℕ) → ℕ
+inFrames home r fs = sum (sum (into home r)) fs
+
+-- a word p with mark k: only words marked 1 are counted
+abbrev pub freeInto : (ℕ → ℕ) → ℕ → ℕ → ℕ → ℕ
+freeInto home r k p = pick (eqb k 1) (into home r p) 0
+
+-- the words of object o: none if it is dead or of region r itself
+unfoldable pub fromObject : (ℕ → Bool) → (ℕ → ℕ) → List (List ℕ) → ℕ → Object → ℕ
+fromObject lives home ks r o = pick (lives (o .home) && not (eqb (o .home) r)) (sum₂ (freeInto home r) (marks ks (o .kind)) (o .words)) 0
+
+unfoldable pub inWords : (ℕ → Bool) → (ℕ → ℕ) → List (List ℕ) → List Object → ℕ → ℕ
+inWords lives home ks os r = sum (fromObject lives home ks r) os
+
+abbrev pub words : Model → ℕ → ℕ
+words L r = inWords (livesIn L) (homeIn L) (L .kinds) (L .objects) r
+
+-- all outside pointers: in words and in every frame
+unfoldable pub outside : Model → ℕ → ℕ
+outside L r = words L r + inFrames (homeIn L) r (L .frames)
+
+-- the stored count: in words and in the counted frames
+unfoldable pub stored : Model → ℕ → ℕ
+stored L r = words L r + inFrames (homeIn L) r (take (L .counted) (L .frames))
+
+-- the live regions directly below r
+abbrev pub subregions : Model → ℕ → ℕ
+subregions L r = count (λ g. eqb (g .parent) r) (L .regions)
+
+-- ---- Marks (document 01, The store)
+
+-- By mark, 0 to 4: may a word of an object of region h, directly below region u, lead into region t?
+abbrev pub rule : ℕ → ℕ → ℕ → ℕ → Bool
+rule k t h u = getD (false ∷ true ∷ eqb t h ∷ (eqb t h || eqb t u) ∷ eqb t 1 ∷ []) k false
+
+-- a word marked k of an object of region h may hold pointer p
+unfoldable pub allowed : (ℕ → ℕ) → (ℕ → ℕ) → ℕ → ℕ → ℕ → Bool
+allowed parent home h k p = eqb p 0 || rule k (home p) h (parent h)
