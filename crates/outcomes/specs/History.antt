@@ -1,0 +1,157 @@
+-- What is live, held and free, the kinds, frames and m, as a list of calls tells them or as a memory lists them at the start; and demand 3's statements on them.
+-- The values of slots, words and counts are those of the store (document 01, The calls, on what is read from where).
+-- Assumes nothing.
+use mathlib.Core.Bool.{Bool, not, _&&_, _||_}
+use mathlib.Core.List.{List, [], _∷_, map}
+use Prim.Native.Nat.{ℕ, suc, _+_}
+use lib.Dec.{eqb, leb}
+use lib.ListN.{length, getD}
+use Rattle.lists.specs.Lists.{bit, pick, any, every, keep, find, sum, count, joined, upTo, times}
+use Rattle.model.specs.Model.{marks, rule}
+use Rattle.frames.specs.Frames.{frameCount, widthAt, slotAt}
+use Rattle.kinds.specs.Kinds.{kindCount, sizeOf, markAt}
+use Rattle.regions.specs.Regions.{nameAt, nameOf, parentAt, countAt, entryOf}
+use Rattle.pages.specs.Pages.{pageCount, ownerAt, isFree}
+use Rattle.objects.specs.Objects.{headersOn}
+use Rattle.outcomes.specs.Store.{Store, frames, kinds, regions, pages}
+
+-- a live region by name, with the name of the region above it, 0 for none
+pub record Region : Type 0 where
+  pub name : ℕ
+  pub parent : ℕ
+
+-- a live object: the place of its header in the heap, its kind, the name of its region
+pub record Object : Type 0 where
+  pub place : ℕ
+  pub kind : ℕ
+  pub home : ℕ
+
+-- a page held by a region, by name
+pub record Holding : Type 0 where
+  pub page : ℕ
+  pub region : ℕ
+
+-- `frames` has the number of slots of each frame, the lowest first; `pages` is how many were made
+pub record History : Type 0 where
+  pub kinds : List (List ℕ)
+  pub frames : List ℕ
+  pub counted : ℕ
+  pub regions : List Region
+  pub objects : List Object
+  pub held : List Holding
+  pub free : List ℕ
+  pub pages : ℕ
+
+-- ---- what a memory lists at the start. Entries that are not in use are never read
+
+unfoldable pub entries : Store → List ℕ
+entries S = keep (λ i. not (eqb (nameAt (regions S) i) 0)) (upTo 64)
+
+unfoldable pub listedRegions : Store → List Region
+listedRegions S = map (λ i. record { name = nameAt (regions S) i; parent = nameOf (regions S) (parentAt (regions S) i) }) (entries S)
+
+unfoldable pub listedKinds : Store → List (List ℕ)
+listedKinds S = map (λ k. map (markAt (kinds S) (suc k)) (upTo (sizeOf (kinds S) (suc k)))) (upTo (kindCount (kinds S)))
+
+unfoldable pub listedFrames : Store → List ℕ
+listedFrames S = map (widthAt (frames S)) (upTo (frameCount (frames S)))
+
+-- the pages entered as a live region's, and those entered as free; a page entered as neither is in no list
+unfoldable pub listedHeld : Store → List Holding
+listedHeld S = keep (λ t. not (eqb (t .region) 0)) (map (λ j. record { page = j; region = nameOf (regions S) (ownerAt (pages S) j) }) (upTo (pageCount (pages S))))
+
+unfoldable pub listedFree : Store → List ℕ
+listedFree S = keep (isFree (pages S)) (upTo (pageCount (pages S)))
+
+-- the objects met header by header on a held page
+unfoldable pub metOn : Store → Holding → List Object
+metOn S t = map (λ p. record { place = p; kind = getD (S .heap) p 0; home = t .region }) (headersOn (kinds S) (S .heap) (pages S) (t .page))
+
+unfoldable pub begin : Store → History
+begin S = record {
+  kinds = listedKinds S;
+  frames = listedFrames S;
+  counted = (frames S) .counted;
+  regions = listedRegions S;
+  objects = joined (metOn S) (listedHeld S);
+  held = listedHeld S;
+  free = listedFree S;
+  pages = pageCount (pages S);
+}
+
+-- ---- pointers: the slots of all frames, and the words marked 1 to 4 of live objects
+
+abbrev pub isLive : History → ℕ → Bool
+isLive h r = any (λ g. eqb (g .name) r) (h .regions)
+
+abbrev pub parentOf : History → ℕ → ℕ
+parentOf h r = (find (λ g. eqb (g .name) r) (record { name = 0; parent = 0 }) (h .regions)) .parent
+
+-- the values of the slots of frame i
+unfoldable pub slotsOf : History → Store → ℕ → List ℕ
+slotsOf h S i = map (slotAt (frames S) i) (upTo (getD (h .frames) i 0))
+
+pub record Word : Type 0 where
+  pub mark : ℕ
+  pub value : ℕ
+
+-- the pointer words of a live object
+unfoldable pub pointersOf : History → Store → Object → List Word
+pointersOf h S o =
+    let ms = marks (h .kinds) (o .kind) in
+    keep (λ w. not (eqb (w .mark) 0)) (map (λ w. record { mark = getD ms w 0; value = getD (S .heap) (o .place + 1 + w) 0 }) (upTo (length ms)))
+
+-- a pointer leads to the live object whose header stands at its value less 1
+abbrev pub at : ℕ → Object → Bool
+at v o = eqb (o .place + 1) v
+
+unfoldable pub leads : History → ℕ → Bool
+leads h v = any (at v) (h .objects)
+
+-- the region of that object by name, 0 where the pointer leads nowhere
+unfoldable pub homeOf : History → ℕ → ℕ
+homeOf h v = (find (at v) (record { place = 0; kind = 0; home = 0 }) (h .objects)) .home
+
+abbrev pub into : History → ℕ → ℕ → Bool
+into h r v = eqb (homeOf h v) r
+
+-- a region's outside pointers: slots, and words marked 1 of objects of other regions (document 01, The store)
+unfoldable pub slotsInto : History → Store → ℕ → ℕ → ℕ
+slotsInto h S r i = count (into h r) (slotsOf h S i)
+
+unfoldable pub wordsInto : History → Store → ℕ → Object → ℕ
+wordsInto h S r o = pick (eqb (o .home) r) 0 (count (λ w. eqb (w .mark) 1 && into h r (w .value)) (pointersOf h S o))
+
+unfoldable pub outside : History → Store → ℕ → ℕ
+outside h S r = sum (slotsInto h S r) (upTo (length (h .frames))) + sum (wordsInto h S r) (h .objects)
+
+-- those in uncounted frames: all frames above the lowest m
+unfoldable pub uncountedInto : History → Store → ℕ → ℕ
+uncountedInto h S r = sum (λ i. pick (leb (h .counted) i) (slotsInto h S r i) 0) (upTo (length (h .frames)))
+
+unfoldable pub storedCount : Store → ℕ → ℕ
+storedCount S r = countAt (regions S) (entryOf (regions S) r)
+
+unfoldable pub subregions : History → ℕ → ℕ
+subregions h r = count (λ g. eqb (g .parent) r) (h .regions)
+
+-- ---- demand 3's statements on counts, pointers and pages
+
+unfoldable pub countsExact : History → Store → Bool
+countsExact h S = every (λ g. eqb (storedCount S (g .name) + uncountedInto h S (g .name)) (outside h S (g .name))) (h .regions)
+
+-- every slot is null or leads to a live object
+unfoldable pub slotsLead : History → Store → Bool
+slotsLead h S = every (λ i. every (λ v. eqb v 0 || leads h v) (slotsOf h S i)) (upTo (length (h .frames)))
+
+-- every pointer word is null, or leads to a live object and keeps its mark's rule
+unfoldable pub wordsLead : History → Store → Bool
+wordsLead h S =
+    every (λ o. every (λ w. eqb (w .value) 0 || (leads h (w .value) && rule (w .mark) (homeOf h (w .value)) (o .home) (parentOf h (o .home)))) (pointersOf h S o)) (h .objects)
+
+-- each page is free or held by one live region
+abbrev pub holders : History → ℕ → List ℕ
+holders h j = map (λ t. t .region) (keep (λ t. eqb (t .page) j) (h .held))
+
+unfoldable pub pagesHeld : History → Bool
+pagesHeld h = every (λ j. eqb (times j (h .free) + length (holders h j)) 1 && every (isLive h) (holders h j)) (upTo (h .pages))

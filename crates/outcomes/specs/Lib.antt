@@ -1,0 +1,5 @@
+pub mod Store
+pub mod History
+pub mod Sound
+pub mod Outcome
+pub mod Shape

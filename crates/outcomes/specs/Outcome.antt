@@ -1,0 +1,257 @@
+-- Each call's outcome: answer, state and heap. `checks` has a call's refusals in document 01's order, `Accepted` what an accepted call gives and leaves.
+-- The equations hold of any memory. What they say of memory that the audit rejects is more than document 01 fixes: callers may rely there on demand 1 alone.
+-- Assumes nothing.
+use mathlib.Core.Path.{_≡_}
+use mathlib.Core.Bool.{Bool, true, false, not, _&&_, _||_}
+use mathlib.Core.List.{List, [], _∷_, map}
+use Prim.Native.Nat.{ℕ, zero, suc, _+_, _-_, _*_, _/_}
+use lib.Dec.{eqb, ltb, leb}
+use lib.ListN.{length, set, take, drop, replicate}
+use lib.Seq.{sets}
+use Rattle.lists.specs.Lists.{bit, pick, any, every, keep, joined, from, upTo}
+use Rattle.model.specs.Model.{Answer, Call, declare, newRegion, subregion, push, dropFrame, handBack, allocate, first, copy, fetch, clear, load, setPointer, put, get, view, same, about, report, totals, audit, delete, four, gives, refusedBy}
+use Rattle.model.specs.Calls.{reason, _⇒_, makes}
+use Rattle.frames.specs.declared.Frames.{Frames}
+use Rattle.frames.specs.Frames.{frameCount, topFrame, widthAt, slotAt, putSlot, pushed, uncounts, popped, raised}
+use Rattle.kinds.specs.declared.Kinds.{Kinds}
+use Rattle.kinds.specs.Kinds.{kindCount, markAt, sizeOf, withKind}
+use Rattle.regions.specs.declared.Regions.{Regions}
+use Rattle.regions.specs.Regions.{nameOf, entryOf, tagOf, isLive, liveCount, subregionsOf, levelAt, newestAt, oldestAt, countAt, unused, withRegion, withoutRegion, withPage, withCounts, moved}
+use Rattle.pages.specs.declared.Pages.{Pages}
+use Rattle.pages.specs.Pages.{wrongLength, pageCount, ownerAt, takenAt, ownerOf, isFree, pagesOf, withTaken, freed}
+use Rattle.objects.specs.Objects.{kindOf, wordCount, markOf, wordAt, freeWordsOn}
+use Rattle.state.specs.declared.State.{State}
+use Rattle.state.specs.declared.Reply.{Reply}
+use Rattle.outcomes.specs.Store.{Store, frames, kinds, regions, pages, slot, outsideOf, ledInto, slotTargets, breaks, size, roomy}
+use Rattle.outcomes.specs.Sound.{Sound}
+
+-- what a call gives back, and the part that view hands back ([] for every other call), as an answer of the reference model
+abbrev pub answerOf : Reply → List ℕ → Answer
+answerOf r p = record { refusal = r .refusal; values = r .a ∷ r .b ∷ r .c ∷ r .d ∷ []; part = p }
+
+abbrev pub store : State → List ℕ → Store
+store s heap = record { state = s; heap = heap }
+
+-- ---- the tests that a call runs, in order, each with its number
+
+unfoldable pub badLength : Store → Bool
+badLength S = wrongLength (pages S) (length (S .heap))
+
+unfoldable pub noFrame : Store → Bool
+noFrame S = eqb ((frames S) .standing) 0
+
+unfoldable pub oneFrame : Store → Bool
+oneFrame S = ltb ((frames S) .standing) 2
+
+-- the top frame, and the frame beneath it, has no slot s
+unfoldable pub lacks : Store → ℕ → Bool
+lacks S s = leb (widthAt (frames S) (topFrame (frames S))) s
+
+unfoldable pub lacksBeneath : Store → ℕ → Bool
+lacksBeneath S s = leb (widthAt (frames S) (topFrame (frames S) - 1)) s
+
+unfoldable pub dead : Store → ℕ → Bool
+dead S r = not (isLive (regions S) r)
+
+unfoldable pub full : Store → Bool
+full S = leb 64 (liveCount (regions S))
+
+unfoldable pub namesOut : Store → Bool
+namesOut S = leb 1000000 ((regions S) .given)
+
+-- the object in slot s has no word w; the word is data; all its words are
+unfoldable pub noWord : Store → ℕ → ℕ → Bool
+noWord S s w = leb (wordCount (kinds S) (S .heap) (slot S s)) w
+
+unfoldable pub isData : Store → ℕ → ℕ → Bool
+isData S s w = eqb (markOf (kinds S) (S .heap) (slot S s) w) 0
+
+unfoldable pub allData : Store → ℕ → Bool
+allData S s = every (λ w. eqb (markAt (kinds S) (kindOf (S .heap) (slot S s)) w) 0) (upTo (wordCount (kinds S) (S .heap) (slot S s)))
+
+unfoldable pub checks : Store → Call → List (Bool × ℕ)
+checks S (declare ms) = badLength S ⇒ 21 ∷ (eqb (length ms) 0 || ltb 16 (length ms) || any (ltb 4) ms) ⇒ 11 ∷ leb 16 ((kinds S) .declared) ⇒ 10 ∷ []
+checks S newRegion = badLength S ⇒ 21 ∷ full S ⇒ 4 ∷ namesOut S ⇒ 5 ∷ []
+checks S (subregion r) = badLength S ⇒ 21 ∷ dead S r ⇒ 2 ∷ leb 16 (levelAt (regions S) (entryOf (regions S) r)) ⇒ 20 ∷ full S ⇒ 4 ∷ namesOut S ⇒ 5 ∷ []
+checks S (push n) = badLength S ⇒ 21 ∷ (eqb n 0 || ltb 8 n) ⇒ 8 ∷ leb 32 ((frames S) .standing) ⇒ 7 ∷ []
+checks S dropFrame = badLength S ⇒ 21 ∷ noFrame S ⇒ 6 ∷ []
+checks S (handBack s b) = badLength S ⇒ 21 ∷ oneFrame S ⇒ 6 ∷ (lacks S s || lacksBeneath S b) ⇒ 9 ∷ []
+checks S (allocate s r k) =
+    badLength S ⇒ 21 ∷ noFrame S ⇒ 6 ∷ lacks S s ⇒ 9 ∷ dead S r ⇒ 2 ∷ (eqb k 0 || ltb (kindCount (kinds S)) k) ⇒ 12
+    ∷ (not (roomy S (entryOf (regions S) r) (size S k)) && eqb (pagesOf (pages S) 0) 0) ⇒ 13 ∷ []
+checks S (first s r) = badLength S ⇒ 21 ∷ noFrame S ⇒ 6 ∷ lacks S s ⇒ 9 ∷ dead S r ⇒ 2 ∷ []
+checks S (copy s t) = badLength S ⇒ 21 ∷ noFrame S ⇒ 6 ∷ (lacks S s || lacks S t) ⇒ 9 ∷ []
+checks S (fetch b s) = badLength S ⇒ 21 ∷ oneFrame S ⇒ 6 ∷ (lacksBeneath S b || lacks S s) ⇒ 9 ∷ []
+checks S (clear s) = badLength S ⇒ 21 ∷ noFrame S ⇒ 6 ∷ lacks S s ⇒ 9 ∷ []
+checks S (load s w t) = badLength S ⇒ 21 ∷ noFrame S ⇒ 6 ∷ (lacks S s || lacks S t) ⇒ 9 ∷ eqb (slot S s) 0 ⇒ 14 ∷ noWord S s w ⇒ 15 ∷ isData S s w ⇒ 16 ∷ []
+checks S (setPointer s w v) =
+    badLength S ⇒ 21 ∷ noFrame S ⇒ 6 ∷ (lacks S s || lacks S v) ⇒ 9 ∷ eqb (slot S s) 0 ⇒ 14 ∷ noWord S s w ⇒ 15 ∷ isData S s w ⇒ 16
+    ∷ breaks S (slot S s) w (slot S v) ⇒ 17 ∷ []
+checks S (put s w x) = badLength S ⇒ 21 ∷ noFrame S ⇒ 6 ∷ lacks S s ⇒ 9 ∷ eqb (slot S s) 0 ⇒ 14 ∷ noWord S s w ⇒ 15 ∷ not (isData S s w) ⇒ 16 ∷ []
+checks S (get s w) = badLength S ⇒ 21 ∷ noFrame S ⇒ 6 ∷ lacks S s ⇒ 9 ∷ eqb (slot S s) 0 ⇒ 14 ∷ noWord S s w ⇒ 15 ∷ not (isData S s w) ⇒ 16 ∷ []
+checks S (view s) = badLength S ⇒ 21 ∷ noFrame S ⇒ 6 ∷ lacks S s ⇒ 9 ∷ eqb (slot S s) 0 ⇒ 14 ∷ not (allData S s) ⇒ 16 ∷ []
+checks S (same s t) = badLength S ⇒ 21 ∷ noFrame S ⇒ 6 ∷ (lacks S s || lacks S t) ⇒ 9 ∷ []
+checks S (about s) = badLength S ⇒ 21 ∷ noFrame S ⇒ 6 ∷ lacks S s ⇒ 9 ∷ []
+checks S (report r) = badLength S ⇒ 21 ∷ dead S r ⇒ 2 ∷ []
+checks S totals = []
+checks S audit = []
+-- 19: the stored count has the outside pointers in words and counted frames, and the look finds the rest
+checks S (delete r) =
+    badLength S ⇒ 21 ∷ dead S r ⇒ 2 ∷ eqb r 1 ⇒ 3 ∷ not (eqb (subregionsOf (regions S) (tagOf (regions S) r)) 0) ⇒ 18
+    ∷ (not (eqb (countAt (regions S) (entryOf (regions S) r)) 0) || ledInto S (tagOf (regions S) r)) ⇒ 19 ∷ []
+
+unfoldable pub refusal : Store → Call → ℕ
+refusal S c = reason (checks S c)
+
+-- ---- what an accepted call leaves
+
+abbrev pub withFrames : Store → Frames → Store
+withFrames S f = store (record { frames = f; kinds = kinds S; regions = regions S; pages = pages S }) (S .heap)
+
+abbrev pub withKinds : Store → Kinds → Store
+withKinds S k = store (record { frames = frames S; kinds = k; regions = regions S; pages = pages S }) (S .heap)
+
+abbrev pub withRegions : Store → Regions → Store
+withRegions S r = store (record { frames = frames S; kinds = kinds S; regions = r; pages = pages S }) (S .heap)
+
+abbrev pub withPages : Store → Pages → Store
+withPages S p = store (record { frames = frames S; kinds = kinds S; regions = regions S; pages = p }) (S .heap)
+
+abbrev pub withHeap : Store → List ℕ → Store
+withHeap S l = store (S .state) l
+
+-- slot s of the top frame gets v
+unfoldable pub fillSlot : Store → ℕ → ℕ → Store
+fillSlot S s v = withFrames S (putSlot (frames S) (topFrame (frames S)) s v)
+
+-- word w of the object that v leads to gets x; no other heap word changes
+unfoldable pub writeWord : Store → ℕ → ℕ → ℕ → Store
+writeWord S v w x = withHeap S (set (S .heap) (v + w) x)
+
+-- pointers into the regions `come` are counted too, pointers into the regions `gone` no more
+unfoldable pub recounted : Store → List ℕ → List ℕ → Store
+recounted S come gone = withRegions S (withCounts (regions S) (moved ((regions S) .counts) come gone))
+
+-- the regions that a pointer v is counted in, held by a word marked k of an object of the region with tag h: none for its own, and none unless k is 1
+unfoldable pub countedIn : Store → ℕ → ℕ → ℕ → List ℕ
+countedIn S k h v = pick (eqb k 1 && not (eqb (ownerOf (pages S) v) h)) (ownerOf (pages S) v ∷ []) []
+
+-- the top frame goes; if the frame then on top was counted, its pointers leave the counts (document 01, The store, on m)
+unfoldable pub popFrame : Store → Store
+popFrame S = withFrames (recounted S [] (pick (uncounts (frames S)) (slotTargets S (topFrame (frames S) - 1)) [])) (popped (frames S))
+
+-- the word of a set pointer moves from the old pointer to the new one (document 01, Set pointer)
+unfoldable pub pointed : Store → ℕ → ℕ → ℕ → Store
+pointed S v w x =
+    let k = markOf (kinds S) (S .heap) v w in
+    let h = ownerOf (pages S) v in
+    writeWord (recounted S (countedIn S k h x) (countedIn S k h (wordAt (S .heap) v w))) v w x
+
+-- page j is the newest page of the region at entry i, if n words more fit there; else it was free (document 01, The store, on objects)
+abbrev pub Chosen : Store → ℕ → ℕ → ℕ → Type 0
+Chosen S i n j = pick (roomy S i n) (eqb (newestAt (regions S) i) (j + 1)) (isFree (pages S) j) ≡ true
+
+-- an object of kind k made on page j for the region at entry i and put in slot s: header, words 0, no other heap word (document 01, Allocate)
+unfoldable pub allocated : Store → ℕ → ℕ → ℕ → ℕ → Store
+allocated S s i k j =
+    let start = pick (roomy S i (size S k)) (takenAt (pages S) j) 0 in
+    let v = 64 * j + start + 1 in
+    let o = oldestAt (regions S) i in
+    let T = withHeap S (sets (S .heap) (64 * j + start) (k ∷ replicate (sizeOf (kinds S) k) 0)) in
+    let U = withPages T (withTaken (pages S) j (i + 1) (start + size S k)) in
+    fillSlot (withRegions U (withPage (regions S) i (j + 1) (pick (eqb o 0) v o))) s v
+
+-- the words marked 1 of a region's pages leave the counts of the other regions, the frames below the top that were not counted enter them,
+-- the pages are free, the entry is given up, m is raised; the heap stays (document 01, Delete)
+unfoldable pub outgoing : Store → ℕ → List ℕ
+outgoing S t =
+    keep (λ u. not (eqb u t)) (map (ownerOf (pages S)) (joined (freeWordsOn (kinds S) (S .heap) (pages S)) (keep (λ j. eqb (ownerAt (pages S) j) t) (upTo (pageCount (pages S))))))
+
+unfoldable pub newlyCounted : Store → List ℕ
+newlyCounted S = let m = (frames S) .counted in joined (slotTargets S) (from m (frameCount (frames S) - 1 - m))
+
+unfoldable pub deleted : Store → ℕ → Store
+deleted S r =
+    let t = tagOf (regions S) r in
+    let T = recounted S (newlyCounted S) (outgoing S t) in
+    let U = withRegions T (withoutRegion (regions T) (entryOf (regions S) r)) in
+    withFrames (withPages U (freed (pages S) t)) (raised (frames S))
+
+-- ---- what a call gives and leaves
+
+abbrev pub Leaves : Answer → Answer → Store → Store → Type 0
+Leaves a b T U = (a ≡ b) × (T ≡ U)
+
+-- view hands back the part of the heap that holds the object's words
+abbrev pub viewed : Store → ℕ → Answer
+viewed S v = record { refusal = 0; values = four []; part = take (wordCount (kinds S) (S .heap) v) (drop v (S .heap)) }
+
+-- 1 exactly if the audit's condition holds, else 0 (document 01, Audit)
+abbrev pub Audited : Store → Answer → Type 0
+Audited S a = (Sound S → a ≡ gives (1 ∷ [])) × ((Sound S → ⊥) → a ≡ gives (0 ∷ []))
+
+unfoldable pub Accepted : Call → Store → Answer → Store → Type 0
+Accepted (declare ms) S a T = Leaves a (gives (((kinds S) .declared + 1) ∷ [])) T (withKinds S (withKind (kinds S) ms))
+Accepted newRegion S a T = Leaves a (gives (((regions S) .given + 1) ∷ [])) T (withRegions S (withRegion (regions S) (unused (regions S)) 0 1))
+Accepted (subregion r) S a T =
+    let g = regions S in
+    Leaves a (gives ((g .given + 1) ∷ [])) T (withRegions S (withRegion g (unused g) (tagOf g r) (levelAt g (entryOf g r) + 1)))
+Accepted (push n) S a T = Leaves a (gives (((frames S) .standing + 1) ∷ [])) T (withFrames S (pushed (frames S) n))
+Accepted dropFrame S a T = Leaves a (gives (topFrame (frames S) ∷ [])) T (popFrame S)
+Accepted (handBack s b) S a T = Leaves a (gives (topFrame (frames S) ∷ [])) T (fillSlot (popFrame S) b (slot S s))
+-- which free page is taken is not fixed: some j that was free, and is the region's newest page afterwards
+Accepted (allocate s r k) S a T =
+    let i = entryOf (regions S) r in
+    (a ≡ gives []) × ((j : ℕ) × Chosen S i (size S k) j × (T ≡ allocated S s i k j))
+Accepted (first s r) S a T = Leaves a (gives []) T (fillSlot S s (oldestAt (regions S) (entryOf (regions S) r)))
+Accepted (copy s t) S a T = Leaves a (gives []) T (fillSlot S t (slot S s))
+Accepted (fetch b s) S a T = Leaves a (gives []) T (fillSlot S s (slotAt (frames S) (topFrame (frames S) - 1) b))
+Accepted (clear s) S a T = Leaves a (gives []) T (fillSlot S s 0)
+Accepted (load s w t) S a T = Leaves a (gives []) T (fillSlot S t (wordAt (S .heap) (slot S s) w))
+Accepted (setPointer s w v) S a T = Leaves a (gives []) T (pointed S (slot S s) w (slot S v))
+Accepted (put s w x) S a T = Leaves a (gives []) T (writeWord S (slot S s) w x)
+Accepted (get s w) S a T = Leaves a (gives (wordAt (S .heap) (slot S s) w ∷ [])) T S
+Accepted (view s) S a T = Leaves a (viewed S (slot S s)) T S
+Accepted (same s t) S a T = Leaves a (gives (bit (eqb (slot S s) (slot S t)) ∷ [])) T S
+Accepted (about s) S a T = Leaves a (gives (nameOf (regions S) (ownerOf (pages S) (slot S s)) ∷ kindOf (S .heap) (slot S s) ∷ [])) T S
+Accepted (report r) S a T =
+    let t = tagOf (regions S) r in
+    Leaves a (gives (countAt (regions S) (entryOf (regions S) r) ∷ outsideOf S t ∷ pagesOf (pages S) t ∷ subregionsOf (regions S) t ∷ [])) T S
+Accepted totals S a T = Leaves a (gives (pagesOf (pages S) 0 ∷ liveCount (regions S) ∷ (frames S) .standing ∷ (frames S) .counted ∷ [])) T S
+Accepted audit S a T = Audited S a × (T ≡ S)
+Accepted (delete r) S a T = Leaves a (gives (pagesOf (pages S) (tagOf (regions S) r) ∷ [])) T (deleted S r)
+
+-- a refused call answers its number and zeros, and leaves every word as it was
+abbrev pub Answered : ℕ → Call → Store → Answer → Store → Type 0
+Answered zero c S a T = Accepted c S a T
+Answered (suc n) c S a T = Leaves a (refusedBy (suc n)) T S
+
+unfoldable pub Outcome : Call → Store → Answer → Store → Type 0
+Outcome c S a T = Answered (refusal S c) c S a T
+
+-- ---- make
+
+-- a state with n pages made, all free, and region 1 named r (0: no region)
+unfoldable pub blank : ℕ → ℕ → State
+blank n r = record {
+  frames = record { standing = 0; counted = 0; widths = replicate 32 0; slots = replicate 256 0 };
+  kinds = record { declared = 0; sizes = replicate 16 0; marks = replicate 256 0 };
+  regions = record {
+    given = r;
+    names = set (replicate 64 0) 0 r;
+    parents = replicate 64 0;
+    levels = set (replicate 64 0) 0 r;
+    counts = replicate 64 0;
+    newest = replicate 64 0;
+    oldest = replicate 64 0;
+  };
+  pages = record { made = n; owners = replicate 256 0; taken = replicate 256 0 };
+}
+
+abbrev pub MakeBy : Bool → List ℕ → Answer → Store → Type 0
+MakeBy true heap a T = Leaves a (gives []) T (store (blank (length heap / 64) 1) (replicate (length heap) 0))
+MakeBy false heap a T = Leaves a (refusedBy 1) T (store (blank 0 0) heap)
+
+-- accepted, all words are 0; refused, no word is written and the state has no page, region, kind or frame (document 01, Make)
+unfoldable pub MakeOutcome : List ℕ → Answer → Store → Type 0
+MakeOutcome heap a T = MakeBy (makes (length heap)) heap a T

@@ -1,0 +1,1 @@
+// The store's outcomes against the reference model, in specs/. No code.
