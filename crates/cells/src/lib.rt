@@ -1,1 +1,209 @@
-// Reads and writes that are total.
+// Reads and writes that are total: an index past the end reads 0 and writes nothing, as getD and set do. A word has 32 bits, a half 16, a byte 8.
+ghost use mathlib.Core.Path.{_≡_};
+ghost use mathlib.Core.List.{_∷_};
+ghost use Prim.Native.Nat.{_-_, min};
+ghost use lib.Dec.{eqb};
+ghost use Rattle.lists.specs.Lists.{find, count, upTo};
+ghost use lib.ListN.{length, getD, set, take, drop, replicate};
+ghost use lib.Seq.{sets};
+
+pub fn word(s: &[u32], i: usize) -> u32
+    ensures { λ r. ⌜ r ≡ getD (now (s .entry)) i 0 ⌝ }
+{
+    if i < s.len() { s[i] } else { 0 }
+}
+
+pub fn half(s: &[u16], i: usize) -> u32
+    ensures { λ r. ⌜ r ≡ getD (now (s .entry)) i 0 ⌝ }
+{
+    if i < s.len() { s[i] as u32 } else { 0 }
+}
+
+pub fn byte(s: &[u8], i: usize) -> u32
+    ensures { λ r. ⌜ r ≡ getD (now (s .entry)) i 0 ⌝ }
+{
+    if i < s.len() { s[i] as u32 } else { 0 }
+}
+
+pub fn store(s: &mut [u32], i: usize, v: u32)
+    ensures { λ _. ⌜ now (s .exit) ≡ set (now (s .entry)) i v ⌝ }
+{
+    if i < s.len() {
+        s[i] = v;
+    }
+}
+
+pub fn store_half(s: &mut [u16], i: usize, v: u16)
+    ensures { λ _. ⌜ now (s .exit) ≡ set (now (s .entry)) i v ⌝ }
+{
+    if i < s.len() {
+        s[i] = v;
+    }
+}
+
+pub fn store_byte(s: &mut [u8], i: usize, v: u8)
+    ensures { λ _. ⌜ now (s .exit) ≡ set (now (s .entry)) i v ⌝ }
+{
+    if i < s.len() {
+        s[i] = v;
+    }
+}
+
+// An array by value with one element replaced.
+pub fn put256(a: [u32; 256], i: usize, v: u32) -> [u32; 256]
+    ensures { λ r. ⌜ r ≡ set a i v ⌝ }
+{
+    let mut b = a;
+    store(&mut b, i, v);
+    b
+}
+
+pub fn put64(a: [u32; 64], i: usize, v: u32) -> [u32; 64]
+    ensures { λ r. ⌜ r ≡ set a i v ⌝ }
+{
+    let mut b = a;
+    store(&mut b, i, v);
+    b
+}
+
+pub fn put64_half(a: [u16; 64], i: usize, v: u16) -> [u16; 64]
+    ensures { λ r. ⌜ r ≡ set a i v ⌝ }
+{
+    let mut b = a;
+    store_half(&mut b, i, v);
+    b
+}
+
+pub fn put256_byte(a: [u8; 256], i: usize, v: u8) -> [u8; 256]
+    ensures { λ r. ⌜ r ≡ set a i v ⌝ }
+{
+    let mut b = a;
+    store_byte(&mut b, i, v);
+    b
+}
+
+pub fn put64_byte(a: [u8; 64], i: usize, v: u8) -> [u8; 64]
+    ensures { λ r. ⌜ r ≡ set a i v ⌝ }
+{
+    let mut b = a;
+    store_byte(&mut b, i, v);
+    b
+}
+
+pub fn put32_byte(a: [u8; 32], i: usize, v: u8) -> [u8; 32]
+    ensures { λ r. ⌜ r ≡ set a i v ⌝ }
+{
+    let mut b = a;
+    store_byte(&mut b, i, v);
+    b
+}
+
+pub fn put16_byte(a: [u8; 16], i: usize, v: u8) -> [u8; 16]
+    ensures { λ r. ⌜ r ≡ set a i v ⌝ }
+{
+    let mut b = a;
+    store_byte(&mut b, i, v);
+    b
+}
+
+// At most n elements from `at` on: those that there are.
+pub fn part(s: &[u32], at: usize, n: usize) -> &[u32]
+    ensures { λ r. ⌜ now r ≡ take n (drop at (now (s .entry))) ⌝ }
+{
+    if s.len() <= at {
+        return &s[0..0];
+    }
+    if s.len() - at <= n {
+        return &s[at..];
+    }
+    let e = at + n;
+    &s[at..e]
+}
+
+// One less, and 0 for 0.
+pub fn less(x: u32) -> u32
+    ensures { λ r. ⌜ r ≡ x - 1 ⌝ }
+{
+    if x == 0 { 0 } else { x - 1 }
+}
+
+pub fn least(x: u32, y: u32) -> u32
+    ensures { λ r. ⌜ r ≡ min x y ⌝ }
+{
+    if x <= y { x } else { y }
+}
+
+// The place of the first x among the first n elements, n where there is none. It takes at most n turns, as do the counts: callers keep n small.
+pub fn find(s: &[u32], n: u32, x: u32) -> u32
+    ensures { λ r. ⌜ r ≡ find (λ i. eqb (getD (now (s .entry)) i 0) x) n (upTo n) ⌝ }
+{
+    let mut i: u32 = 0;
+    while i < n {
+        if word(s, i as usize) == x {
+            return i;
+        }
+        i += 1;
+    }
+    i
+}
+
+// How many of the first n elements are x.
+pub fn count(s: &[u32], n: u32, x: u32) -> u32
+    ensures { λ r. ⌜ r ≡ count (λ i. eqb (getD (now (s .entry)) i 0) x) (upTo n) ⌝ }
+{
+    let mut k: u32 = 0;
+    let mut i: u32 = 0;
+    while i < n {
+        if word(s, i as usize) == x {
+            k += 1;
+        }
+        i += 1;
+    }
+    k
+}
+
+pub fn count_byte(s: &[u8], n: u32, x: u32) -> u32
+    ensures { λ r. ⌜ r ≡ count (λ i. eqb (getD (now (s .entry)) i 0) x) (upTo n) ⌝ }
+{
+    let mut k: u32 = 0;
+    let mut i: u32 = 0;
+    while i < n {
+        if byte(s, i as usize) == x {
+            k += 1;
+        }
+        i += 1;
+    }
+    k
+}
+
+// The n words from `at` on are 0, as far as there are any.
+pub fn zero(s: &mut [u32], at: usize, n: usize)
+    ensures { λ _. ⌜ now (s .exit) ≡ sets (now (s .entry)) at (replicate n 0) ⌝ }
+{
+    let mut i = at;
+    let mut k = n;
+    while i < s.len() {
+        if k == 0 {
+            return;
+        }
+        s[i] = 0;
+        i += 1;
+        k -= 1;
+    }
+}
+
+// Every word is 0.
+pub fn clear(s: &mut [u32])
+    ensures { λ _. ⌜ now (s .exit) ≡ replicate (length (now (s .entry))) 0 ⌝ }
+{
+    let n = s.len();
+    zero(s, 0, n);
+}
+
+// A header k at `at`, and n words 0 after it.
+pub fn lay(s: &mut [u32], at: u32, k: u32, n: u32)
+    ensures { λ _. ⌜ now (s .exit) ≡ sets (now (s .entry)) at (k ∷ replicate n 0) ⌝ }
+{
+    store(s, at as usize, k);
+    zero(s, (at as usize) + 1, n as usize);
+}

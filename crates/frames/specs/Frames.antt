@@ -1,7 +1,6 @@
 -- The stack of frames as the state keeps it (document 01, The store). Every reading is total: past the end it gives 0, and a write there changes nothing.
 -- Assumes nothing.
 use mathlib.Core.Bool.{Bool, _&&_}
-use mathlib.Core.List.{List}
 use Prim.Native.Nat.{ℕ, _+_, _-_, _*_, min}
 use lib.Dec.{ltb, leb}
 use lib.ListN.{getD, set, replicate}

@@ -1,12 +1,12 @@
 -- The kinds as the state keeps them (document 01, The store). Every reading is total: where there is no such kind or word it gives 0.
 -- Assumes nothing.
-use mathlib.Core.Bool.{_&&_}
+use mathlib.Core.Bool.{Bool, _&&_, _||_}
 use mathlib.Core.List.{List}
 use Prim.Native.Nat.{ℕ, _+_, _-_, _*_, min}
-use lib.Dec.{ltb, leb}
+use lib.Dec.{eqb, ltb, leb}
 use lib.ListN.{length, getD, set}
 use lib.Seq.{sets}
-use Rattle.lists.specs.Lists.{pick}
+use Rattle.lists.specs.Lists.{pick, any, every, upTo}
 use Rattle.kinds.specs.declared.Kinds.{Kinds}
 
 -- the kinds listed, of which the state has room for 16
@@ -24,3 +24,11 @@ markAt k n w = getD (k .marks) (16 * (n - 1) + w) 0
 -- one kind more, with the marks ms (document 01, Declare)
 unfoldable pub withKind : Kinds → List ℕ → Kinds
 withKind k ms = record { declared = k .declared + 1; sizes = set (k .sizes) (k .declared) (length ms); marks = sets (k .marks) (16 * k .declared) ms }
+
+-- what declare refuses as marks: none, more than 16, or one above 4 (document 01, Declare)
+unfoldable pub wrongMarks : List ℕ → Bool
+wrongMarks ms = eqb (length ms) 0 || ltb 16 (length ms) || any (ltb 4) ms
+
+-- every word of kind n is data
+unfoldable pub allData : Kinds → ℕ → Bool
+allData k n = every (λ w. eqb (markAt k n w) 0) (upTo (sizeOf k n))

@@ -4,3 +4,4 @@ pub mod Sums
 pub mod All
 pub mod Finds
 pub mod UpTo
+pub mod Sets

@@ -7,10 +7,9 @@ use lib.Dec.{eqb, ltb, leb}
 use lib.ListN.{length, getD, set, take, replicate}
 use Rattle.lists.specs.Lists.{bit, pick, any, every, keep}
 use Rattle.model.specs.Model.{Call, declare, newRegion, subregion, push, dropFrame, handBack, allocate, first, copy, fetch, clear, load, setPointer, put, get, view, same, about, report, totals, audit, delete}
-use Rattle.model.specs.Model.{Region, Object, Model, Answer, four, gives, refusedBy, called, region, marks, livesIn, homeIn, parentIn, last, top, beneath, slot, held, heldMarks, markAt}
-use Rattle.model.specs.Model.{inFrames, fromObject, inWords, outside, stored, subregions, allowed}
+use Rattle.model.specs.Model.{Region, Object, Model, Answer, four, gives, refusedBy, called, region, marks, livesIn, homeIn, parentIn, last, top, beneath, slot, held, heldMarks, markAt, inFrames, fromObject, inWords, outside, stored, subregions, allowed}
 
--- ---- Refusals (document 01, The calls)
+-- ---- Refusals (document 01, The calls). 21 is not among them: each call of a session gets the store's own heap
 
 -- tests in order, each with the number that refuses; the first that holds decides, and 0 accepts
 infix 68 _⇒_
@@ -25,6 +24,7 @@ reason (t ∷ ts) = pick (t .0) (t .1) (reason ts)
 abbrev pub lacks : List ℕ → ℕ → Bool
 lacks f s = leb (length f) s
 
+-- no frame stands; fewer than two stand
 abbrev pub noFrame : Model → Bool
 noFrame L = eqb (length (L .frames)) 0
 
@@ -38,6 +38,7 @@ null L s = eqb (slot L s) 0
 abbrev pub noWord : Model → ℕ → ℕ → Bool
 noWord L s w = leb (length ((held L s) .words)) w
 
+-- no live region has the name r
 abbrev pub dead : Model → ℕ → Bool
 dead L r = not (livesIn L r)
 
@@ -48,6 +49,7 @@ size L k = length (marks (L .kinds) k) + 1
 abbrev pub fits : Region → ℕ → Bool
 fits g n = leb n (g .room)
 
+-- the tests of each call, in document 01's order
 unfoldable pub checks : Model → Call → List (Bool × ℕ)
 checks L (declare ms) = (eqb (length ms) 0 || ltb 16 (length ms) || any (ltb 4) ms) ⇒ 11 ∷ leb 16 (length (L .kinds)) ⇒ 10 ∷ []
 checks L newRegion = leb 64 (length (L .regions)) ⇒ 4 ∷ leb 1000000 (L .given) ⇒ 5 ∷ []
@@ -176,12 +178,16 @@ addObject L r k =
       objects = L .objects ++ (record { home = r; kind = k; words = replicate (length (marks (L .kinds) k)) 0 } ∷ []);
     }
 
+-- the regions but r
+abbrev pub others : List Region → ℕ → List Region
+others gs r = keep (λ g. not (called r g)) gs
+
 -- region r goes, its pages are free again, and all frames but the top one are counted (document 01, Delete)
 unfoldable pub removeRegion : Model → ℕ → Model
 removeRegion L r = record {
   free = L .free + (region (L .regions) r) .pages;
   kinds = L .kinds;
-  regions = keep (λ g. not (called r g)) (L .regions);
+  regions = others (L .regions) r;
   frames = L .frames;
   counted = last (L .frames);
   given = L .given;

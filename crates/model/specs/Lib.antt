@@ -1,4 +1,7 @@
 pub mod Model
 pub mod Calls
 pub mod Sessions
+pub mod Valid
+pub mod Moves
+pub mod Paged
 pub mod Laws

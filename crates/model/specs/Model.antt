@@ -82,6 +82,7 @@ noRegion = record { name = 0; parent = 0; level = 0; pages = 0; room = 0; oldest
 abbrev pub noObject : Object
 noObject = record { home = 0; kind = 0; words = [] }
 
+-- region g has the name r
 abbrev pub called : ℕ → Region → Bool
 called r g = eqb (g .name) r
 
@@ -119,6 +120,7 @@ parentIn L = parentOf (L .regions)
 abbrev pub last : List (List ℕ) → ℕ
 last fs = length fs - 1
 
+-- the top frame, and the one beneath it
 abbrev pub top : Model → List ℕ
 top L = getD (L .frames) (last (L .frames)) []
 

@@ -20,7 +20,7 @@ unfoldable pub session : ℕ → List Call → List (List ℕ)
 unfolding run
 session w cs = elim (makes w) [ true ↦ line 1 0 0 0 0 0 ∷ lines 2 (run (fresh (w / 64)) cs) | false ↦ line 1 1 0 0 0 0 ∷ [] ]
 
--- the words lent to make, the calls after it, and the lines printed, but for the first `skip` of them
+-- the words given to make, the calls after it, and the lines printed, but for the first `skip` of them
 pub record Row : Type 0 where
   pub words : ℕ
   pub calls : List Call

@@ -1,7 +1,7 @@
 -- Laws of `any`, `every`, `find` and `keep`, and so of `among`, which is an `any`.
 -- Assumes nothing.
 use mathlib.Core.Path.{_≡_, refl, sym, ap, _∙_, fun-ext}
-use mathlib.Core.Bool.{Bool, true, false, _&&_, _||_, and-assoc, true≢false, false≢true}
+use mathlib.Core.Bool.{Bool, true, false, not, _&&_, _||_, and-assoc, true≢false, false≢true}
 use mathlib.Core.List.{List, [], _∷_, _++_, map, append-assoc}
 use Prim.Native.Nat.{ℕ, zero, suc, _+_, _<_}
 use native.Mathlib.Nat.{le-of-suc-le-suc, not-suc-le-zero}
@@ -10,9 +10,9 @@ use lib.Dec.{eqb, ltb}
 use lib.ListN.{length, getD}
 use borrow.Author.Tests.{eqb-true, lt-ltb}
 use Rattle.lists.specs.Lists.{bit, pick, any, every, keep, find, sum, count, times, among, All, joined}
-use Rattle.lists.specs.Laws.Tests.{neither, both, by-test, pick-same}
-use Rattle.lists.specs.Laws.All.{all-in}
-use Rattle.lists.specs.Laws.Sums.{sum-keep, sum-pick}
+use Rattle.lists.specs.Laws.Tests.{neither, both, by-test, bit-zero, pick-same}
+use Rattle.lists.specs.Laws.All.{all-map, all-in}
+use Rattle.lists.specs.Laws.Sums.{sum-keep, sum-map, sum-pick, sum-plus, sum-zero}
 
 module _ {A : Type 0} where
   pub any-append : (f : A → Bool) (l r : List A) → any f (l ++ r) ≡ (any f l || any f r)
@@ -123,6 +123,10 @@ module _ {A : Type 0} where
   true-every f [] h = refl
   true-every f (x ∷ xs) h = rw (h .0, true-every f xs (h .1))
 
+  -- none passes of fewer
+  pub any-fewer : (f g : A → Bool) (l : List A) → any f l ≡ false → any f (keep g l) ≡ false
+  any-fewer f g l e = false-any f (keep g l) (all-map (λ x h. h .0) (keep g l) (all-keep (λ x. f x ≡ false) g l (any-false f l e)))
+
   -- an element that passes
   pub any-in : (f : A → Bool) (l : List A) (i : ℕ) (d : A) → i < length l → f (getD l i d) ≡ true → any f l ≡ true
   any-in f l i d h e = by-test (any f l) (λ t. t) (λ t. absurd (true≢false (sym e ∙ all-in (λ x. f x ≡ false) l i d (any-false f l t) h)))
@@ -139,6 +143,38 @@ module _ {A : Type 0} where
       go : (b : Bool) → any f xs ≡ ltb 0 (count f xs) → (b || any f xs) ≡ ltb 0 (bit b + count f xs)
       go true e = sym (lt-ltb 0 (1 + count f xs) (omega arith))
       go false e = let z : 0 + count f xs ≡ count f xs = omega arith in rw z e
+
+  -- none passes
+  pub sum-none : (t : A → Bool) (f : A → ℕ) (l : List A) → All (λ x. t x ≡ false) l → sum (λ x. pick (t x) (f x) 0) l ≡ 0
+  sum-none t f [] h = refl
+  sum-none t f (x ∷ xs) h = rw (h .0) (omega (arith, sum-none t f xs (h .1)))
+
+  -- one passes: it is the one found
+  pub sum-one : (t : A → Bool) (f : A → ℕ) (d : A) (l : List A) → count t l ≡ 1 → sum (λ x. pick (t x) (f x) 0) l ≡ f (find t d l)
+  sum-one t f d [] e = absurd (omega arith)
+  sum-one t f d (x ∷ xs) e = go (t x) e (sum-one t f d xs)
+    where
+      go : (b : Bool) → bit b + count t xs ≡ 1 → (count t xs ≡ 1 → sum (λ x. pick (t x) (f x) 0) xs ≡ f (find t d xs))
+          → pick b (f x) 0 + sum (λ x. pick (t x) (f x) 0) xs ≡ f (pick b x (find t d xs))
+      go true e h = omega (arith, sum-none t f xs (all-map (λ x z. bit-zero (t x) z) xs (sum-zero (λ x. bit (t x)) xs (omega arith))))
+      go false e h = omega (arith, h (omega arith))
+
+  -- it goes, or changes by h
+  pub sum-without : (t : A → Bool) (f : A → ℕ) (d : A) (l : List A) → count t l ≡ 1 → sum f (keep (λ x. not (t x)) l) + f (find t d l) ≡ sum f l
+  sum-without t f d l e = rw (sum-keep f (λ x. not (t x)) l, sym (sum-one t f d l e)) (sym (sum-plus _ _ l) ∙ ap (λ f. sum f l) (fun-ext (λ x. go (t x) (f x))))
+    where
+      go : (b : Bool) (n : ℕ) → pick (not b) n 0 + pick b n 0 ≡ n
+      go true n = omega arith
+      go false n = omega arith
+
+  pub sum-instead : (t : A → Bool) (h : A → A) (f : A → ℕ) (d : A) (l : List A) → count t l ≡ 1
+      → sum f (map (λ x. pick (t x) (h x) x) l) + f (find t d l) ≡ sum f l + f (h (find t d l))
+  sum-instead t h f d l e = rw (sum-map f (λ x. pick (t x) (h x) x) l, sym (sum-one t f d l e), sym (sum-one t (λ x. f (h x)) d l e))
+      (sym (sum-plus _ _ l) ∙ ap (λ f. sum f l) (fun-ext (λ x. go (t x) x)) ∙ sum-plus _ _ l)
+    where
+      go : (b : Bool) (x : A) → f (pick b (h x) x) + pick b (f x) 0 ≡ f x + pick b (f (h x)) 0
+      go true x = omega arith
+      go false x = omega arith
 
 module _ {A B : Type 0} where
   pub any-map : (f : B → Bool) (g : A → B) (l : List A) → any f (map g l) ≡ any (λ x. f (g x)) l

@@ -1,13 +1,13 @@
 -- Laws of sums, and so of `count` and `times`, which are sums of bits.
 -- Assumes nothing.
 use mathlib.Core.Path.{_≡_, refl, ap, ap₂}
-use mathlib.Core.Bool.{Bool, true, false}
+use mathlib.Core.Bool.{Bool, true, false, _||_}
 use mathlib.Core.List.{List, [], _∷_, _++_, map}
-use Prim.Native.Nat.{ℕ, zero, suc, _+_, _≤_, _<_}
-use native.Mathlib.Nat.{le-of-suc-le-suc, not-suc-le-zero}
+use Prim.Native.Nat.{ℕ, zero, suc, _+_, _*_, _≤_, _<_}
+use native.Mathlib.Nat.{le-of-suc-le-suc, not-suc-le-zero, mul-suc}
 use native.Mathlib.Omega.{arith}
 use lib.ListN.{length, getD, set, take, drop, replicate}
-use Rattle.lists.specs.Lists.{bit, pick, keep, sum, sum₂, count, All, All₂, joined}
+use Rattle.lists.specs.Lists.{bit, pick, any, keep, sum, sum₂, count, All, All₂, joined}
 
 module _ {A : Type 0} where
   -- one element replaced: the new one comes in, the old one goes out
@@ -37,6 +37,16 @@ module _ {A : Type 0} where
   pub sum-same : (f g : A → ℕ) (l : List A) → All (λ x. f x ≡ g x) l → sum f l ≡ sum g l
   sum-same f g [] h = refl
   sum-same f g (x ∷ xs) h = ap₂ _+_ (h .0) (sum-same f g xs (h .1))
+
+  -- no element adds more
+  pub sum-le : (f g : A → ℕ) → ((x : A) → f x ≤ g x) → (l : List A) → sum f l ≤ sum g l
+  sum-le f g h [] = omega arith
+  sum-le f g h (x ∷ xs) = omega (arith, h x, sum-le f g h xs)
+
+  -- each element adds n at most
+  pub sum-most : (f : A → ℕ) (n : ℕ) (l : List A) → All (λ x. f x ≤ n) l → sum f l ≤ n * length l
+  sum-most f n [] h = omega arith
+  sum-most f n (x ∷ xs) h = rw (mul-suc n (length xs)) (omega (arith, h .0, sum-most f n xs (h .1)))
 
   -- a test that does not look at the elements
   pub sum-pick : (b : Bool) (f : A → ℕ) (l : List A) → sum (λ x. pick b (f x) 0) l ≡ pick b (sum f l) 0
@@ -78,10 +88,30 @@ module _ {A B : Type 0} where
   sum-joined f g [] = refl
   sum-joined f g (x ∷ xs) = omega (arith, sum-append f (g x) (joined g xs), sum-joined f g xs)
 
+  -- what passes some test is added up under one test at least
+  pub sum-any : (t : B → A → Bool) (f : A → ℕ) (l : List A) (ys : List B) → sum (λ x. pick (any (λ y. t y x) ys) (f x) 0) l ≤ sum (λ y. sum (λ x. pick (t y x) (f x) 0) l) ys
+  sum-any t f l [] = omega (arith, sum-pick false f l)
+  sum-any t f l (y ∷ ys) = omega (arith, sum-any t f l ys, sum-plus (one y) (some ys) l, sum-le _ (λ x. one y x + some ys x) (λ x. go (t y x) (any (λ y. t y x) ys) (f x)) l)
+    where
+      one : B → A → ℕ
+      one y x = pick (t y x) (f x) 0
+
+      some : List B → A → ℕ
+      some ys x = pick (any (λ y. t y x) ys) (f x) 0
+
+      go : (a b : Bool) (n : ℕ) → pick (a || b) n 0 ≤ pick a n 0 + pick b n 0
+      go true b n = omega arith
+      go false b n = omega arith
+
   pub sum₂-zero : (f : A → B → ℕ) (xs : List A) (ys : List B) → sum₂ f xs ys ≡ 0 → All₂ (λ x y. f x y ≡ 0) xs ys
   sum₂-zero f [] ys e = tt
   sum₂-zero f (x ∷ xs) [] e = tt
   sum₂-zero f (x ∷ xs) (y ∷ ys) e = (omega arith, sum₂-zero f xs ys (omega arith))
+
+  pub sum₂-most : (f : A → B → ℕ) → ((x : A) (y : B) → f x y ≤ 1) → (xs : List A) (ys : List B) → sum₂ f xs ys ≤ length ys
+  sum₂-most f h [] ys = omega arith
+  sum₂-most f h (x ∷ xs) [] = omega arith
+  sum₂-most f h (x ∷ xs) (y ∷ ys) = omega (arith, h x y, sum₂-most f h xs ys)
 
   pub sum₂-set : (f : A → B → ℕ) (xs : List A) (ys : List B) (i : ℕ) (y : B) (d : A) (e : B) → i < length xs → i < length ys
       → sum₂ f xs (set ys i y) + f (getD xs i d) (getD ys i e) ≡ sum₂ f xs ys + f (getD xs i d) y

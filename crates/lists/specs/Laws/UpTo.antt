@@ -9,9 +9,10 @@ use native.Mathlib.Nat.{le-of-suc-le-suc, not-suc-le-zero}
 use native.Mathlib.Numerals.{add-one}
 use native.Mathlib.Omega.{arith}
 use lib.Dec.{ltb}
-use lib.ListN.{length, getD, length-map}
+use lib.ListN.{length, getD, take, drop, length-map, drop-of-length-le}
+use lib.Seq.{take-length, drop-cons}
 use borrow.Author.Tests.{ltb-true, ltb-false}
-use Rattle.lists.specs.Lists.{bit, pick, any, every, keep, find, sum, count, All, joined, from, upTo}
+use Rattle.lists.specs.Lists.{bit, pick, any, every, keep, find, sum, sum₂, count, All, joined, from, upTo}
 use Rattle.lists.specs.Laws.Tests.{by-test, by-same}
 use Rattle.lists.specs.Laws.All.{all-in}
 use Rattle.lists.specs.Laws.Sums.{sum-append, sum-same}
@@ -96,6 +97,26 @@ getD-map-upTo f d n i h = getD-map-in f (upTo n) i d 0 (rw (length-upTo n) h) �
 
 pub length-map-upTo : {A : Type 0} (f : ℕ → A) (n : ℕ) → length (map f (upTo n)) ≡ n
 length-map-upTo f n = length-map (upTo n) f ∙ length-upTo n
+
+-- ---- the elements at the places of a list, added up
+
+-- at n places from k on
+pub sum-part : {A : Type 0} (f : A → ℕ) (l : List A) (d : A) (k n : ℕ) → k + n ≤ length l → sum (λ i. f (getD l i d)) (from k n) ≡ sum f (take n (drop k l))
+sum-part f l d k zero h = refl
+sum-part f l d k (suc n) h = rw (drop-cons l k d (omega arith)) (ap (λ m. f (getD l k d) + m) (sum-part f l d (suc k) n (omega arith)))
+
+pub sum-places : {A : Type 0} (f : A → ℕ) (l : List A) (d : A) → sum (λ i. f (getD l i d)) (upTo (length l)) ≡ sum f l
+sum-places f l d = sum-part f l d 0 (length l) (omega arith) ∙ ap (sum f) (take-length l)
+
+module _ {A B : Type 0} (f : A → B → ℕ) (xs : List A) (ys : List B) (d : A) (e : B) where
+  sum₂-part : (k n : ℕ) → k + n ≡ length xs → k + n ≡ length ys → sum (λ i. f (getD xs i d) (getD ys i e)) (from k n) ≡ sum₂ f (drop k xs) (drop k ys)
+  sum₂-part k zero a b = rw (drop-of-length-le xs {i = k} (omega arith))
+  sum₂-part k (suc n) a b =
+      rw (drop-cons xs k d (omega arith), drop-cons ys k e (omega arith))
+      (ap (λ m. f (getD xs k d) (getD ys k e) + m) (sum₂-part (suc k) n (omega arith) (omega arith)))
+
+  pub sum₂-places : length ys ≡ length xs → sum (λ i. f (getD xs i d) (getD ys i e)) (upTo (length xs)) ≡ sum₂ f xs ys
+  sum₂-places h = sum₂-part 0 (length xs) (omega arith) (omega arith)
 
 -- ---- what holds of each number below n
 

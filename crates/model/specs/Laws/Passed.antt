@@ -1,0 +1,75 @@
+-- Refused or accepted: what a call answers and leaves in each case, and that an accepted one passed each of its tests.
+-- Assumes nothing.
+use mathlib.Core.Path.{_≡_, refl, ap}
+use mathlib.Core.Bool.{Bool, true, false}
+use mathlib.Core.List.{List, [], _∷_}
+use Prim.Native.Nat.{ℕ, suc, _<_}
+use native.Mathlib.Omega.{arith}
+use lib.Dec.{ltb}
+use borrow.Author.Tests.{ltb-true}
+use Rattle.lists.specs.Lists.{pick, every, All}
+use Rattle.lists.specs.Laws.Tests.{both}
+use Rattle.model.specs.Model.{Model, Call, declare, newRegion, subregion, push, dropFrame, handBack, allocate, first, copy, fetch, clear, load, setPointer, put, get, view, same, about, report, totals, audit, delete}
+use Rattle.model.specs.Model.{refusedBy}
+use Rattle.model.specs.Calls.{checks, refusal, reason, reply, accepted, answer, answerBy, next, nextBy}
+
+abbrev pub positive : Bool × ℕ → Bool
+positive t = ltb 0 (t .1)
+
+one-passed : (b : Bool) (n k : ℕ) → 0 < n → pick b n k ≡ 0 → (b ≡ false) × (k ≡ 0)
+one-passed true n k h e = absurd (omega arith)
+one-passed false n k h e = (refl, e)
+
+pub all-passed : (ts : List (Bool × ℕ)) → every positive ts ≡ true → reason ts ≡ 0 → All (λ t. t .0 ≡ false) ts
+all-passed [] p e = tt
+all-passed (t ∷ ts) p e =
+    let q = both (positive t) (every positive ts) p in
+    let r = one-passed (t .0) (t .1) (reason ts) (ltb-true 0 (t .1) (q .0)) e in
+    (r .0, all-passed ts (q .1) (r .1))
+
+numbers : (L : Model) (c : Call) → every positive (checks L c) ≡ true
+unfolding checks
+numbers L (declare ms) = refl
+numbers L newRegion = refl
+numbers L (subregion r) = refl
+numbers L (push n) = refl
+numbers L dropFrame = refl
+numbers L (handBack s b) = refl
+numbers L (allocate s r k) = refl
+numbers L (first s r) = refl
+numbers L (copy s t) = refl
+numbers L (fetch b s) = refl
+numbers L (clear s) = refl
+numbers L (load s w t) = refl
+numbers L (setPointer s w v) = refl
+numbers L (put s w x) = refl
+numbers L (get s w) = refl
+numbers L (view s) = refl
+numbers L (same s t) = refl
+numbers L (about s) = refl
+numbers L (report r) = refl
+numbers L totals = refl
+numbers L audit = refl
+numbers L (delete r) = refl
+
+-- in the tests' order: t .0, t .1 .0, t .1 .1 .0, .. of `passed L c e`
+pub passed : (L : Model) (c : Call) → refusal L c ≡ 0 → All (λ t. t .0 ≡ false) (checks L c)
+unfolding refusal
+passed L c e = all-passed (checks L c) (numbers L c) e
+
+module _ (L : Model) (c : Call) where
+  pub next-accepted : refusal L c ≡ 0 → next L c ≡ accepted L c
+  unfolding next
+  next-accepted e = ap (λ n. nextBy n L c) e
+
+  pub answer-accepted : refusal L c ≡ 0 → answer L c ≡ reply L c
+  unfolding answer
+  answer-accepted e = ap (λ n. answerBy n L c) e
+
+  pub next-refused : (n : ℕ) → refusal L c ≡ suc n → next L c ≡ L
+  unfolding next
+  next-refused n e = ap (λ n. nextBy n L c) e
+
+  pub answer-refused : (n : ℕ) → refusal L c ≡ suc n → answer L c ≡ refusedBy (suc n)
+  unfolding answer
+  answer-refused n e = ap (λ n. answerBy n L c) e

@@ -1,0 +1,46 @@
+-- The readings and the audit's clauses, computed on the memories of Examples.
+-- Assumes nothing.
+use mathlib.Core.Path.{_≡_, refl}
+use mathlib.Core.Bool.{Bool, true, false, _&&_}
+use mathlib.Core.List.{List, [], _∷_, map}
+use Prim.Native.Nat.{ℕ, suc}
+use lib.Dec.{eqb}
+use Rattle.lists.specs.Lists.{pick, every}
+use Rattle.frames.specs.Frames.{frameCount, widthAt, slotAt}
+use Rattle.kinds.specs.Kinds.{kindCount, sizeOf, markAt}
+use Rattle.regions.specs.Regions.{nameAt, nameOf, entryOf, parentAt, levelAt, newestAt, oldestAt, countAt}
+use Rattle.pages.specs.Pages.{pageCount, ownerAt, takenAt, isFree}
+use Rattle.objects.specs.Objects.{walk, headersOn}
+use Rattle.outcomes.specs.History.{entries, listedRegions, listedKinds, listedFrames, listedHeld, listedFree, metOn, begin, slotsOf, pointersOf, leads, homeOf, slotsInto, wordsInto, outside, uncountedInto, storedCount, countsExact, slotsLead, wordsLead, pagesHeld}
+use Rattle.outcomes.specs.Sound.{filled, placed, newestOwn, oldestOwn}
+use Rattle.outcomes.specs.Examples.{Example, small, examples}
+use Rattle.outcomes.specs.Laws.Decided.{clauses}
+
+-- the places of the tests that fail
+abbrev failing : ℕ → List Bool → List ℕ
+failing n [] = []
+failing n (b ∷ bs) = pick b (failing (suc n) bs) (n ∷ failing (suc n) bs)
+
+-- what each memory breaks, and nothing else: a computed test
+abbrev equal : List ℕ → List ℕ → Bool
+equal [] [] = true
+equal [] (y ∷ ys) = false
+equal (x ∷ xs) [] = false
+equal (x ∷ xs) (y ∷ ys) = eqb x y && equal xs ys
+
+abbrev right : Example → Bool
+right e = equal (failing 0 (clauses (e .memory))) (e .breaks)
+
+pub broken : every right examples ≡ true
+unfolding frameCount widthAt slotAt kindCount sizeOf markAt nameAt nameOf entryOf parentAt levelAt newestAt oldestAt countAt pageCount ownerAt takenAt isFree walk headersOn entries listedRegions listedKinds listedFrames listedHeld listedFree metOn begin slotsOf pointersOf leads homeOf slotsInto wordsInto outside uncountedInto storedCount countsExact slotsLead wordsLead pagesHeld filled placed newestOwn oldestOwn
+broken = refl
+
+-- what the accepted one lists
+met : begin small .objects ≡ record { place = 0; kind = 1; home = 1 } ∷ record { place = 3; kind = 3; home = 1 } ∷ record { place = 64; kind = 1; home = 5 } ∷ record { place = 67; kind = 2; home = 5 } ∷ []
+unfolding kindCount sizeOf nameAt nameOf pageCount ownerAt takenAt walk headersOn listedHeld metOn begin
+met = refl
+
+-- of regions 1 and 5: stored count, pointers in uncounted frames, outside pointers
+counted : map (λ r. storedCount small r ∷ uncountedInto (begin small) small r ∷ outside (begin small) small r ∷ []) (1 ∷ 5 ∷ []) ≡ (2 ∷ 0 ∷ 2 ∷ []) ∷ (2 ∷ 1 ∷ 3 ∷ []) ∷ []
+unfolding frameCount widthAt slotAt kindCount sizeOf markAt nameAt nameOf entryOf parentAt countAt pageCount ownerAt takenAt isFree walk headersOn entries listedRegions listedKinds listedFrames listedHeld listedFree metOn begin slotsOf pointersOf homeOf slotsInto wordsInto outside uncountedInto storedCount
+counted = refl

@@ -1,0 +1,226 @@
+-- Every outcome is a value of the language's types.
+-- Assumes nothing.
+use mathlib.Core.Path.{_≡_, refl, sym, ap, subst, subst⁻¹, _∙_}
+use mathlib.Core.Logic.{_⊎_, inl, inr}
+use mathlib.Core.Bool.{Bool, true, false, not, _&&_, _||_, true≢false}
+use mathlib.Core.List.{List, [], _∷_}
+use Prim.Native.Nat.{ℕ, zero, suc, _+_, _-_, _*_, _≤_, _<_, min}
+use native.Mathlib.Omega.{arith}
+use lib.Dec.{eqb, ltb, leb}
+use lib.ListN.{length, getD, set, replicate}
+use lib.Seq.{sets}
+use borrow.Author.Tests.{eqb-true, eqb-false, ltb-true, ltb-false, leb-true, leb-false}
+use Rattle.lists.specs.Lists.{bit, pick, any, All}
+use Rattle.lists.specs.Laws.Tests.{neither, both}
+use Rattle.lists.specs.Laws.All.{all-map, all-set, all-replicate}
+use Rattle.lists.specs.Laws.Finds.{any-false}
+use Rattle.model.specs.Model.{Answer, Call, declare, newRegion, subregion, push, dropFrame, handBack, allocate, first, copy, fetch, clear, load, setPointer, put, get, view, same, about, report, totals, audit, delete, gives, refusedBy}
+use Rattle.frames.specs.Frames.{topFrame}
+use Rattle.kinds.specs.Kinds.{kindCount, sizeOf}
+use Rattle.regions.specs.declared.Regions.{Regions}
+use Rattle.regions.specs.Regions.{entryOf, tagOf, isLive, newestAt, oldestAt, levelAt}
+use Rattle.pages.specs.Pages.{pageCount, isFree, takenAt}
+use Rattle.outcomes.specs.Store.{Store, frames, kinds, regions, pages, slot, size, roomy}
+use Rattle.outcomes.specs.Sound.{Sound}
+use Rattle.outcomes.specs.Shape.{RegionsShaped, Shaped}
+use Rattle.outcomes.specs.Outcome.{Outcome, Accepted, Answered, Audited, Chosen, refusal, checks, dead, namesOut, fillSlot, writeWord, recounted, pointed, popFrame, allocated, deleted, withFrames, withKinds, withRegions, withPages, withHeap}
+use Rattle.outcomes.specs.Promises.{KeepsShape}
+use Rattle.outcomes.specs.Laws.Decided.{sound-or-not}
+use Rattle.outcomes.specs.Laws.Passed.{passed}
+use Rattle.outcomes.specs.Laws.Shaped.{array-at, all-sets, pick-below, slot-below, put-slot, push-frame, pop-frame, raise-mark, with-kind, with-region, without-region, with-page, with-moved, with-taken, free-pages}
+use Rattle.outcomes.specs.Laws.Values.{size-most, outside-below, word-below, kind-below, live-below, subregions-below, pages-below, name-below, count-below, oldest-below}
+
+abbrev Small : List ℕ → Type 0
+Small l = All (λ x. x < 4294967296) l
+
+zeros : Small (gives [] .values)
+zeros = (omega arith, (omega arith, (omega arith, (omega arith, tt))))
+
+one : (x : ℕ) → x < 4294967296 → Small (gives (x ∷ []) .values)
+one x h = (h, (omega arith, (omega arith, (omega arith, tt))))
+
+four-small : (x y z w : ℕ) → x < 4294967296 → y < 4294967296 → z < 4294967296 → w < 4294967296 → Small (gives (x ∷ y ∷ z ∷ w ∷ []) .values)
+four-small x y z w h k l m = (h, (k, (l, (m, tt))))
+
+-- ---- the steps that several calls share
+
+module _ (S : Store) (h : Shaped S) where
+  filled : (s v : ℕ) → v < 4294967296 → Shaped (fillSlot S s v)
+  unfolding fillSlot
+  filled s v b = record { inFrames = put-slot (frames S) (h .inFrames) (topFrame (frames S)) s v b; inKinds = h .inKinds; inRegions = h .inRegions; inPages = h .inPages; heap = h .heap }
+
+  slot-small : (s : ℕ) → slot S s < 4294967296
+  unfolding slot
+  slot-small s = slot-below (frames S) (h .inFrames) (topFrame (frames S)) s
+
+  written : (v w x : ℕ) → x < 4294967296 → Shaped (writeWord S v w x)
+  unfolding writeWord
+  written v w x b = record { inFrames = h .inFrames; inKinds = h .inKinds; inRegions = h .inRegions; inPages = h .inPages; heap = all-set (λ x. x < 4294967296) (S .heap) (v + w) x (h .heap) b }
+
+  moved-shape : (come gone : List ℕ) → Shaped (recounted S come gone)
+  unfolding recounted
+  moved-shape come gone = record { inFrames = h .inFrames; inKinds = h .inKinds; inRegions = with-moved (regions S) (h .inRegions) come gone; inPages = h .inPages; heap = h .heap }
+
+  popped-shape : Shaped (popFrame S)
+  unfolding popFrame recounted
+  popped-shape = let m = moved-shape [] _ in record { inFrames = pop-frame (frames S) (h .inFrames); inKinds = h .inKinds; inRegions = m .inRegions; inPages = h .inPages; heap = h .heap }
+
+  pointed-shape : (v w x : ℕ) → x < 4294967296 → Shaped (pointed S v w x)
+  unfolding pointed writeWord recounted
+  pointed-shape v w x b = let m = moved-shape _ _ in record { inFrames = h .inFrames; inKinds = h .inKinds; inRegions = m .inRegions; inPages = h .inPages; heap = all-set (λ x. x < 4294967296) (S .heap) (v + w) x (h .heap) b }
+
+  deleted-shape : (r : ℕ) → Shaped (deleted S r)
+  unfolding deleted recounted
+  deleted-shape r =
+      let m = moved-shape _ _ in
+      record {
+        inFrames = raise-mark (frames S) (h .inFrames);
+        inKinds = h .inKinds;
+        inRegions = without-region _ (m .inRegions) (entryOf (regions S) r);
+        inPages = free-pages (pages S) (h .inPages) (tagOf (regions S) r);
+        heap = h .heap;
+      }
+
+entry-below : (S : Store) (r : ℕ) → dead S r ≡ false → entryOf (regions S) r < 64
+unfolding dead isLive
+entry-below S r e = go (ltb (entryOf (regions S) r) 64) refl e
+  where
+    go : (b : Bool) → ltb (entryOf (regions S) r) 64 ≡ b → not b ≡ false → entryOf (regions S) r < 64
+    go true q e = ltb-true (entryOf (regions S) r) 64 q
+    go false q e = absurd (true≢false e)
+
+tag-below : (g : Regions) (r : ℕ) → entryOf g r < 64 → tagOf g r < 256
+unfolding tagOf
+tag-below g r h = omega arith
+
+top-below : (S : Store) → Shaped S → topFrame (frames S) < 4294967296
+unfolding topFrame
+top-below S h = omega (arith, h .inFrames .standing)
+
+size-below : (S : Store) (k : ℕ) → size S k ≤ 17
+unfolding size
+size-below S k = omega (arith, size-most (kinds S) k)
+
+kind-most : (S : Store) (k : ℕ) → ltb (kindCount (kinds S)) k ≡ false → k ≤ 16
+unfolding kindCount
+kind-most S k e = omega (arith, ltb-false (min ((kinds S) .declared) 16) k e)
+
+newest-below : (g : Regions) → RegionsShaped g → (i : ℕ) → newestAt g i < 65536
+unfolding newestAt
+newest-below g h i = array-at 64 65536 (g .newest) (h .newest) i (omega arith)
+
+-- an object on the page chosen: where it starts, and that page, fit their types
+roomy-fits : (S : Store) (i n : ℕ) → roomy S i n ≡ true → takenAt (pages S) (newestAt (regions S) i - 1) + n ≤ 64
+unfolding roomy
+roomy-fits S i n e = go (eqb (newestAt (regions S) i) 0) (leb 65 (takenAt (pages S) (newestAt (regions S) i - 1) + n)) refl e
+  where
+    go : (b d : Bool) → leb 65 (takenAt (pages S) (newestAt (regions S) i - 1) + n) ≡ d → not (b || d) ≡ true → takenAt (pages S) (newestAt (regions S) i - 1) + n ≤ 64
+    go true d q e = absurd (true≢false (sym e))
+    go false true q e = absurd (true≢false (sym e))
+    go false false q e = omega (arith, leb-false 65 (takenAt (pages S) (newestAt (regions S) i - 1) + n) q)
+
+free-below : (S : Store) (j : ℕ) → isFree (pages S) j ≡ true → j < 256
+unfolding isFree pageCount
+free-below S j e = omega (arith, ltb-true j (min ((pages S) .made) 256) (both _ _ e .0))
+
+place-fits : (S : Store) (i n j : ℕ) → Shaped S → n ≤ 17 → Chosen S i n j → (j + 1 < 65536) × (pick (roomy S i n) (takenAt (pages S) j) 0 + n ≤ 64)
+place-fits S i n j h b c = go (roomy S i n) refl c
+  where
+    go : (r : Bool) → roomy S i n ≡ r → pick r (eqb (newestAt (regions S) i) (j + 1)) (isFree (pages S) j) ≡ true → (j + 1 < 65536) × (pick r (takenAt (pages S) j) 0 + n ≤ 64)
+    go true q c =
+        let e = eqb-true (newestAt (regions S) i) (j + 1) c in
+        let d : newestAt (regions S) i - 1 ≡ j = omega arith in
+        (omega (arith, e, newest-below (regions S) (h .inRegions) i), rw d at (roomy-fits S i n q))
+    go false q c = (omega (arith, free-below S j c), omega arith)
+
+allocated-shape : (S : Store) (s i k j : ℕ) → Shaped S → i < 64 → k ≤ 16 → Chosen S i (size S k) j → Shaped (allocated S s i k j)
+unfolding allocated fillSlot
+allocated-shape S s i k j h b m c =
+    let f = place-fits S i (size S k) j h (size-below S k) c in
+    let start = pick (roomy S i (size S k)) (takenAt (pages S) j) 0 in
+    let o = oldestAt (regions S) i in
+    let v : 64 * j + start + 1 < 4294967296 = omega (arith, f .0, f .1) in
+    record {
+      inFrames = put-slot (frames S) (h .inFrames) (topFrame (frames S)) s (64 * j + start + 1) v;
+      inKinds = h .inKinds;
+      inRegions = with-page (regions S) (h .inRegions) i (j + 1) (pick (eqb o 0) (64 * j + start + 1) o) (f .0) (pick-below (eqb o 0) (64 * j + start + 1) o 4294967296 v (oldest-below (regions S) (h .inRegions) i));
+      inPages = with-taken (pages S) (h .inPages) j (i + 1) (start + size S k) (omega arith) (omega (arith, f .1));
+      heap = all-sets (λ x. x < 4294967296) (k ∷ replicate (sizeOf (kinds S) k) 0) (S .heap) (64 * j + start) (h .heap) (omega arith, all-replicate (λ x. x < 4294967296) (sizeOf (kinds S) k) 0 (omega arith));
+    }
+
+-- ---- every call
+
+both-of : (a b : Answer) (T U : Store) → (a ≡ b) × (T ≡ U) → Shaped U → Small (b .values) → Shaped T × Small (a .values)
+both-of a b T U q h k = (subst⁻¹ Shaped (q .1) h, subst⁻¹ (λ x. Small (x .values)) (q .0) k)
+
+audit-small : (S : Store) (a : Answer) → Audited S a → Small (a .values)
+audit-small S a h = go (sound-or-not S)
+  where
+    go : (Sound S) ⊎ (Sound S → ⊥) → Small (a .values)
+    go (inl s) = subst⁻¹ (λ x. Small (x .values)) (h .0 s) (one 1 (omega arith))
+    go (inr n) = subst⁻¹ (λ x. Small (x .values)) (h .1 n) (one 0 (omega arith))
+
+accepted-keeps : (c : Call) (S : Store) (a : Answer) (T : Store) → ((s w x : ℕ) → c ≡ put s w x → x < 4294967296) → Shaped S → refusal S c ≡ 0 → Accepted c S a T → Shaped T × Small (a .values)
+unfolding Accepted checks namesOut
+accepted-keeps (declare ms) S a T x h e q =
+    let t = passed S (declare ms) e in
+    let d = leb-false 16 ((kinds S) .declared) (t .1 .1 .0) in
+    let m = neither (eqb (length ms) 0 || ltb 16 (length ms)) (any (ltb 4) ms) (t .1 .0) in
+    let n = neither (eqb (length ms) 0) (ltb 16 (length ms)) (m .0) in
+    let k = with-kind (kinds S) ms (h .inKinds) d (ltb-false 16 (length ms) (n .1)) (all-map (λ m f. ltb-false 4 m f) ms (any-false (ltb 4) ms (m .1))) in
+    both-of a _ T _ q (record { inFrames = h .inFrames; inKinds = k; inRegions = h .inRegions; inPages = h .inPages; heap = h .heap }) (one ((kinds S) .declared + 1) (omega arith))
+accepted-keeps newRegion S a T x h e q =
+    let t = passed S newRegion e in
+    let g = leb-false 1000000 ((regions S) .given) (t .1 .1 .0) in
+    let r = with-region (regions S) (h .inRegions) _ 0 1 g (omega arith) (omega arith) in
+    both-of a _ T _ q (record { inFrames = h .inFrames; inKinds = h .inKinds; inRegions = r; inPages = h .inPages; heap = h .heap }) (one ((regions S) .given + 1) (omega arith))
+accepted-keeps (subregion p) S a T x h e q =
+    let t = passed S (subregion p) e in
+    let i = entry-below S p (t .1 .0) in
+    let l = leb-false 16 (levelAt (regions S) (entryOf (regions S) p)) (t .1 .1 .0) in
+    let g = leb-false 1000000 ((regions S) .given) (t .1 .1 .1 .1 .0) in
+    let r = with-region (regions S) (h .inRegions) _ (tagOf (regions S) p) (levelAt (regions S) (entryOf (regions S) p) + 1) g (tag-below (regions S) p i) (omega arith) in
+    both-of a _ T _ q (record { inFrames = h .inFrames; inKinds = h .inKinds; inRegions = r; inPages = h .inPages; heap = h .heap }) (one ((regions S) .given + 1) (omega arith))
+accepted-keeps (push n) S a T x h e q =
+    let t = passed S (push n) e in
+    let b = ltb-false 8 n (neither (eqb n 0) (ltb 8 n) (t .1 .0) .1) in
+    let d = leb-false 32 ((frames S) .standing) (t .1 .1 .0) in
+    let f = push-frame (frames S) (h .inFrames) n d b in
+    both-of a _ T _ q (record { inFrames = f; inKinds = h .inKinds; inRegions = h .inRegions; inPages = h .inPages; heap = h .heap }) (one ((frames S) .standing + 1) (omega arith))
+accepted-keeps dropFrame S a T x h e q = both-of a _ T _ q (popped-shape S h) (one (topFrame (frames S)) (top-below S h))
+accepted-keeps (handBack s b) S a T x h e q = both-of a _ T _ q (filled (popFrame S) (popped-shape S h) b (slot S s) (slot-small S h s)) (one (topFrame (frames S)) (top-below S h))
+accepted-keeps (allocate s r k) S a T x h e q =
+    let t = passed S (allocate s r k) e in
+    let i = entry-below S r (t .1 .1 .1 .0) in
+    let m = kind-most S k (neither (eqb k 0) (ltb (kindCount (kinds S)) k) (t .1 .1 .1 .1 .0) .1) in
+    both-of a _ T _ (q .0, q .1 .2) (allocated-shape S s (entryOf (regions S) r) k (q .1 .0) h i m (q .1 .1)) zeros
+accepted-keeps (first s r) S a T x h e q = both-of a _ T _ q (filled S h s _ (oldest-below (regions S) (h .inRegions) _)) zeros
+accepted-keeps (copy s t) S a T x h e q = both-of a _ T _ q (filled S h t _ (slot-small S h s)) zeros
+accepted-keeps (fetch b s) S a T x h e q = both-of a _ T _ q (filled S h s _ (slot-below (frames S) (h .inFrames) _ b)) zeros
+accepted-keeps (clear s) S a T x h e q = both-of a _ T _ q (filled S h s 0 (omega arith)) zeros
+accepted-keeps (load s w t) S a T x h e q = both-of a _ T _ q (filled S h t _ (word-below S h (slot S s) w)) zeros
+accepted-keeps (setPointer s w v) S a T x h e q = both-of a _ T _ q (pointed-shape S h (slot S s) w (slot S v) (slot-small S h v)) zeros
+accepted-keeps (put s w y) S a T x h e q = both-of a _ T _ q (written S h (slot S s) w y (x s w y refl)) zeros
+accepted-keeps (get s w) S a T x h e q = both-of a _ T _ q h (one _ (word-below S h (slot S s) w))
+accepted-keeps (view s) S a T x h e q = both-of a _ T _ q h zeros
+accepted-keeps (same s t) S a T x h e q = both-of a _ T _ q h (one _ (bit-below (eqb (slot S s) (slot S t))))
+  where
+    bit-below : (b : Bool) → bit b < 4294967296
+    bit-below true = omega arith
+    bit-below false = omega arith
+accepted-keeps (about s) S a T x h e q = both-of a _ T _ q h (four-small _ _ 0 0 (name-below (regions S) (h .inRegions) _) (kind-below S h (slot S s)) (omega arith) (omega arith))
+accepted-keeps (report r) S a T x h e q =
+    let t = tagOf (regions S) r in
+    both-of a _ T _ q h (four-small _ _ _ _ (count-below (regions S) (h .inRegions) _) (outside-below S h t) (omega (arith, pages-below (pages S) t)) (omega (arith, subregions-below (regions S) t)))
+accepted-keeps totals S a T x h e q =
+    both-of a _ T _ q h (four-small _ _ _ _ (omega (arith, pages-below (pages S) 0)) (omega (arith, live-below (regions S))) (h .inFrames .standing) (h .inFrames .counted))
+accepted-keeps audit S a T x h e q = (subst⁻¹ Shaped (q .1) h, audit-small S a (q .0))
+accepted-keeps (delete r) S a T x h e q = both-of a _ T _ q (deleted-shape S h r) (one _ (omega (arith, pages-below (pages S) (tagOf (regions S) r))))
+
+pub keeps-shape : KeepsShape
+unfolding KeepsShape Outcome
+keeps-shape c S a T x h o = go (refusal S c) refl o
+  where
+    go : (n : ℕ) → refusal S c ≡ n → Answered n c S a T → Shaped T × Small (a .values)
+    go zero e k = accepted-keeps c S a T x h e k
+    go (suc n) e k = both-of a _ T _ k h zeros

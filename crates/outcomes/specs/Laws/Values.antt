@@ -1,0 +1,116 @@
+-- What a call gives fits 32 bits.
+-- Assumes nothing.
+use mathlib.Core.Path.{_≡_, refl, sym, ap, subst, _∙_}
+use mathlib.Core.Bool.{Bool, true, false, not, _&&_, _||_}
+use mathlib.Core.List.{List, [], _∷_, map}
+use Prim.Native.Nat.{ℕ, zero, suc, _+_, _-_, _*_, _≤_, _<_, min}
+use native.Mathlib.Nat.{suc-mul}
+use native.Mathlib.Omega.{arith}
+use lib.Dec.{eqb, ltb, leb}
+use lib.ListN.{length, getD, length-map, length-append}
+use Rattle.lists.specs.Lists.{pick, sum, count, keep, joined, All, from, upTo}
+use Rattle.lists.specs.Laws.Sums.{count-most, length-keep}
+use Rattle.lists.specs.Laws.UpTo.{length-upTo}
+use Rattle.lists.specs.Laws.All.{all-at}
+use Rattle.frames.specs.Frames.{frameCount, widthAt, slotAt}
+use Rattle.kinds.specs.declared.Kinds.{Kinds}
+use Rattle.kinds.specs.Kinds.{sizeOf, kindCount, markAt}
+use Rattle.regions.specs.declared.Regions.{Regions}
+use Rattle.regions.specs.Regions.{nameAt, nameOf, parentAt, liveCount, subregionsOf, countAt, oldestAt}
+use Rattle.pages.specs.declared.Pages.{Pages}
+use Rattle.pages.specs.Pages.{pageCount, ownerAt, takenAt, ownerOf, pagesOf}
+use Rattle.objects.specs.Objects.{kindOf, wordAt, walk, headersOn, freeWords, freeWordsOn}
+use Rattle.outcomes.specs.Store.{Store, frames, kinds, regions, pages, slotsInto, wordsInto, outsideOf}
+use Rattle.outcomes.specs.Shape.{FramesShaped, RegionsShaped, Shaped}
+use Rattle.outcomes.specs.Laws.Shaped.{array-at, pick-below}
+
+-- a sum of n numbers, none above b
+sum-most : (f : ℕ → ℕ) (b k n : ℕ) → ((i : ℕ) → f i ≤ b) → sum f (from k n) ≤ n * b
+sum-most f b k zero h = omega arith
+sum-most f b k (suc n) h = rw (suc-mul n b) (omega (arith, h k, sum-most f b (suc k) n h))
+
+joined-most : (g : ℕ → List ℕ) (b : ℕ) (l : List ℕ) → ((x : ℕ) → length (g x) ≤ b) → length (joined g l) ≤ length l * b
+joined-most g b [] h = omega arith
+joined-most g b (x ∷ xs) h = rw (suc-mul (length xs) b, length-append) (omega (arith, h x, joined-most g b xs h))
+
+pub size-most : (k : Kinds) (n : ℕ) → sizeOf k n ≤ 16
+unfolding sizeOf
+size-most k n = go (ltb 0 n && leb n (kindCount k))
+  where
+    go : (b : Bool) → pick b (min (getD (k .sizes) (n - 1) 0) 16) 0 ≤ 16
+    go true = omega arith
+    go false = omega arith
+
+walk-most : (k : Kinds) (heap : List ℕ) (n p e : ℕ) → length (walk k heap n p e) ≤ n
+unfolding walk
+walk-most k heap zero p e = omega arith
+walk-most k heap (suc n) p e = go (ltb 0 (sizeOf k (getD heap p 0)) && leb (p + 1 + sizeOf k (getD heap p 0)) e) (walk-most k heap n (p + 1 + sizeOf k (getD heap p 0)) e)
+  where
+    go : (b : Bool) → length (walk k heap n (p + 1 + sizeOf k (getD heap p 0)) e) ≤ n → length (pick b (p ∷ walk k heap n (p + 1 + sizeOf k (getD heap p 0)) e) []) ≤ suc n
+    go true h = omega arith
+    go false h = omega arith
+
+free-most : (k : Kinds) (heap : List ℕ) (p : ℕ) → length (freeWords k heap p) ≤ 16
+unfolding freeWords
+free-most k heap p =
+    let n = getD heap p 0 in
+    rw (length-map, length-keep) (omega (arith, count-most (λ w. eqb (markAt k n w) 1) (upTo (sizeOf k n)), length-upTo (sizeOf k n), size-most k n))
+
+page-most : (k : Kinds) (heap : List ℕ) (p : Pages) (j : ℕ) → length (freeWordsOn k heap p j) ≤ 1024
+unfolding freeWordsOn headersOn
+page-most k heap p j =
+    let l = walk k heap 64 (64 * j) (64 * j + takenAt p j) in
+    omega (arith, joined-most (freeWords k heap) 16 l (free-most k heap), walk-most k heap 64 (64 * j) (64 * j + takenAt p j))
+
+-- ---- what the calls read
+
+module _ (S : Store) (h : Shaped S) where
+  slots-most : (t i : ℕ) → slotsInto S t i ≤ 255
+  unfolding slotsInto widthAt
+  slots-most t i = omega (arith, count-most (λ s. eqb (ownerOf (pages S) (slotAt (frames S) i s)) t) (upTo (getD ((frames S) .widths) i 0)), length-upTo (getD ((frames S) .widths) i 0), array-at 32 256 ((frames S) .widths) (h .inFrames .widths) i (omega arith))
+
+  words-most : (t j : ℕ) → wordsInto S t j ≤ 1024
+  unfolding wordsInto
+  words-most t j = go (eqb (ownerAt (pages S) j) 0 || eqb (ownerAt (pages S) j) t)
+    where
+      go : (b : Bool) → pick b 0 (count (λ v. eqb (ownerOf (pages S) v) t) (freeWordsOn (kinds S) (S .heap) (pages S) j)) ≤ 1024
+      go true = omega arith
+      go false = omega (arith, count-most (λ v. eqb (ownerOf (pages S) v) t) (freeWordsOn (kinds S) (S .heap) (pages S) j), page-most (kinds S) (S .heap) (pages S) j)
+
+  pub outside-below : (t : ℕ) → outsideOf S t < 4294967296
+  unfolding outsideOf frameCount pageCount
+  outside-below t =
+      omega (arith, sum-most (slotsInto S t) 255 0 (min ((frames S) .standing) 32) (slots-most t), sum-most (wordsInto S t) 1024 0 (min ((pages S) .made) 256) (words-most t))
+
+  pub word-below : (v w : ℕ) → wordAt (S .heap) v w < 4294967296
+  unfolding wordAt
+  word-below v w = all-at (λ x. x < 4294967296) (S .heap) (v + w) 0 (h .heap) (omega arith)
+
+  pub kind-below : (v : ℕ) → kindOf (S .heap) v < 4294967296
+  unfolding kindOf
+  kind-below v = pick-below (eqb v 0) 0 (getD (S .heap) (v - 1) 0) 4294967296 (omega arith) (all-at (λ x. x < 4294967296) (S .heap) (v - 1) 0 (h .heap) (omega arith))
+
+pub live-below : (g : Regions) → liveCount g ≤ 64
+unfolding liveCount
+live-below g = omega (arith, count-most (λ i. not (eqb (nameAt g i) 0)) (upTo 64), length-upTo 64)
+
+pub subregions-below : (g : Regions) (t : ℕ) → subregionsOf g t ≤ 64
+unfolding subregionsOf
+subregions-below g t = omega (arith, count-most (λ i. not (eqb (nameAt g i) 0) && eqb (parentAt g i) t) (upTo 64), length-upTo 64)
+
+pub pages-below : (p : Pages) (t : ℕ) → pagesOf p t ≤ 256
+unfolding pagesOf pageCount
+pages-below p t = omega (arith, count-most (λ j. eqb (ownerAt p j) t) (upTo (min (p .made) 256)), length-upTo (min (p .made) 256))
+
+module _ (g : Regions) (h : RegionsShaped g) where
+  pub name-below : (t : ℕ) → nameOf g t < 4294967296
+  unfolding nameOf
+  name-below t = all-at (λ x. x < 4294967296) (0 ∷ g .names) t 0 (omega arith, h .names .1) (omega arith)
+
+  pub count-below : (i : ℕ) → countAt g i < 4294967296
+  unfolding countAt
+  count-below i = array-at 64 4294967296 (g .counts) (h .counts) i (omega arith)
+
+  pub oldest-below : (i : ℕ) → oldestAt g i < 4294967296
+  unfolding oldestAt
+  oldest-below i = array-at 64 4294967296 (g .oldest) (h .oldest) i (omega arith)

@@ -1,0 +1,89 @@
+-- What every call promises whatever it is asked and whatever memory it is given: demand 1's part on answers and words. Each is a type; Laws has the proofs.
+-- Assumes nothing.
+use mathlib.Core.Path.{_≡_}
+use mathlib.Core.Logic.{_⊎_, _↔_, _≢_}
+use mathlib.Core.Bool.{true, false}
+use mathlib.Core.List.{List, [], _∷_}
+use Prim.Native.Nat.{ℕ, _+_, _*_, _≤_, _<_}
+use lib.ListN.{length, getD}
+use Rattle.lists.specs.Lists.{All}
+use Rattle.model.specs.Model.{Answer, Call, declare, newRegion, subregion, push, dropFrame, handBack, allocate, first, copy, fetch, clear, load, setPointer, put, get, view, same, about, report, totals, audit, delete, gives, refusedBy}
+use Rattle.model.specs.Calls.{makes}
+use Rattle.outcomes.specs.Store.{Store, slot, size}
+use Rattle.outcomes.specs.History.{History, begin}
+use Rattle.outcomes.specs.Sound.{Sound}
+use Rattle.outcomes.specs.Shape.{Shaped}
+use Rattle.outcomes.specs.Outcome.{Outcome, MakeOutcome, refusal, badLength, store}
+
+-- every call has an outcome on every memory
+unfoldable pub Total : Type 0
+Total = (c : Call) (S : Store) → (a : Answer) × (T : Store) × Outcome c S a T
+
+-- the number answered is the first test that holds; a refused call answers it with zeros and leaves every word
+unfoldable pub Refusals : Type 0
+Refusals =
+    (c : Call) (S : Store) (a : Answer) (T : Store) → Outcome c S a T
+    → (a .refusal ≡ refusal S c) × (a .refusal ≢ 0 → (a ≡ refusedBy (refusal S c)) × (T ≡ S))
+
+-- every call but totals and audit answers 21 first where the heap's length is not the one made; and never 21 on a store that the audit accepts
+unfoldable pub LengthFirst : Type 0
+LengthFirst =
+    (c : Call) (S : Store) (a : Answer) (T : Store) → c ≢ totals → c ≢ audit → Outcome c S a T
+    → (badLength S ≡ true → (a ≡ refusedBy 21) × (T ≡ S)) × (Sound S → a .refusal ≢ 21)
+
+-- no call changes the heap's length
+unfoldable pub SameLength : Type 0
+SameLength = (c : Call) (S : Store) (a : Answer) (T : Store) → Outcome c S a T → length (T .heap) ≡ length (S .heap)
+
+-- the heap words that a call may write, from S to T: those of the object that allocate makes, and the word that set pointer or put names
+abbrev pub Named : Call → Store → Store → ℕ → Type 0
+Named (declare ms) S T p = ⊥
+Named newRegion S T p = ⊥
+Named (subregion r) S T p = ⊥
+Named (push n) S T p = ⊥
+Named dropFrame S T p = ⊥
+Named (handBack s b) S T p = ⊥
+Named (allocate s r k) S T p = (slot T s ≤ p + 1) × (p + 1 < slot T s + size S k)
+Named (first s r) S T p = ⊥
+Named (copy s t) S T p = ⊥
+Named (fetch b s) S T p = ⊥
+Named (clear s) S T p = ⊥
+Named (load s w t) S T p = ⊥
+Named (setPointer s w v) S T p = p ≡ slot S s + w
+Named (put s w x) S T p = p ≡ slot S s + w
+Named (get s w) S T p = ⊥
+Named (view s) S T p = ⊥
+Named (same s t) S T p = ⊥
+Named (about s) S T p = ⊥
+Named (report r) S T p = ⊥
+Named totals S T p = ⊥
+Named audit S T p = ⊥
+Named (delete r) S T p = ⊥
+
+unfoldable pub OnlyNamed : Type 0
+OnlyNamed =
+    (c : Call) (S : Store) (a : Answer) (T : Store) → Sound S → Shaped S → Outcome c S a T
+    → (p : ℕ) → (getD (T .heap) p 0 ≡ getD (S .heap) p 0) ⊎ Named c S T p
+
+-- an outcome is a value of the language's types: numbers stay below their width. Of the arguments only put's value goes into the memory as it is
+unfoldable pub KeepsShape : Type 0
+KeepsShape =
+    (c : Call) (S : Store) (a : Answer) (T : Store) → ((s w x : ℕ) → c ≡ put s w x → x < 4294967296) → Shaped S → Outcome c S a T
+    → Shaped T × All (λ x. x < 4294967296) (a .values)
+
+-- audit answers 1 exactly where its condition holds, else 0, and changes nothing
+unfoldable pub AuditExact : Type 0
+AuditExact =
+    (S : Store) (a : Answer) (T : Store) → Outcome audit S a T
+    → ((a ≡ gives (1 ∷ [])) ↔ Sound S) × ((a ≡ gives (1 ∷ [])) ⊎ (a ≡ gives (0 ∷ []))) × (T ≡ S)
+
+-- no page, region, kind or frame
+abbrev pub nothing : History
+nothing = record { kinds = []; frames = []; counted = 0; regions = []; objects = []; held = []; free = []; pages = 0 }
+
+-- make: accepted, every word is 0 and the audit accepts; refused, no word is written, the state lists nothing, and the audit rejects it whatever heap it is asked of
+unfoldable pub Makes : Type 0
+Makes =
+    (heap : List ℕ) (a : Answer) (T : Store) → MakeOutcome heap a T
+    → (makes (length heap) ≡ true → (a ≡ gives []) × (length (T .heap) ≡ length heap) × All (λ w. w ≡ 0) (T .heap) × Sound T)
+    × (makes (length heap) ≡ false → (a ≡ refusedBy 1) × (T .heap ≡ heap) × (begin T ≡ nothing) × ((other : List ℕ) → Sound (store (T .state) other) → ⊥))

@@ -1,0 +1,57 @@
+use mathlib.Core.Path.{_≡_, sym, ap, _∙_}
+use mathlib.Core.Bool.{false}
+use Prim.Native.Nat.{ℕ, _≤_, _<_, _-_}
+use native.Mathlib.Omega.{arith}
+use lib.Dec.{eqb}
+use borrow.Author.Count.{below-none, below-more}
+use borrow.Author.Needs.{needs}
+use borrow.Author.Tests.{eq-eqb, ne-eqb}
+use Rattle.lists.specs.Laws.UpTo.{find-first, find-default}
+use Rattle.pages.specs.Pages.{pageCount, ownerAt, firstFree}
+use Rattle.pages.proofs.find_free.Statement.{statement}
+use Rattle.pages.proofs.find_free.Tie as tie
+
+-- none of the pages passed is free
+abbrev Inv-loop : tie.InvT-loop
+Inv-loop p n j₀ j = (n ≡ pageCount p) × (j ≤ n) × ((i : ℕ) → i < j → eqb (ownerAt p i) 0 ≡ false)
+
+abbrev μ-loop : tie.MeasureT-loop
+μ-loop p n j₀ j = n - j
+
+loop-holds : tie.Need-loop-holds Inv-loop μ-loop
+loop-holds c = (c .page-count .ensures, search needs, below-none _)
+
+returns : tie.Need-returns Inv-loop μ-loop
+unfolding firstFree
+returns c =
+    let l = c .before .before .before in
+    let p = l .before .before .args .p in
+    sym (find-first (λ j. eqb (ownerAt p j) 0) (pageCount p) (pageCount p) (l .loop .j) (omega arith) (eq-eqb _ _ (sym (c .before .owner-at .ensures) ∙ c .if1 .taken)) (l .loop .inv .2))
+
+loop-again : tie.Need-loop-again Inv-loop μ-loop
+loop-again c =
+    let l = c .before .before .before in
+    (l .loop .inv .0, omega arith, below-more _ _ (l .loop .inv .2) (ne-eqb _ _ (λ q. c .if1 .left (c .before .owner-at .ensures ∙ q))))
+
+returns-2 : tie.Need-returns-2 Inv-loop μ-loop
+unfolding firstFree
+returns-2 c =
+    let l = c .before in
+    let p = l .before .before .args .p in
+    let e : l .loop .j ≡ pageCount p = omega arith in
+    e ∙ sym (find-default (λ j. eqb (ownerAt p j) 0) (pageCount p) (pageCount p) (rw e at (l .loop .inv .2)))
+
+pub find-free-spec : {M : Type 1} → statement M
+find-free-spec =
+    tie.close
+    (tie.spec
+    Inv-loop
+    μ-loop
+    (λ c κs. search needs)
+    loop-holds
+    (λ c κs. search needs)
+    returns
+    (λ c. search needs)
+    (λ c. search needs)
+    loop-again
+    returns-2)

@@ -1,0 +1,11 @@
+use borrow.Author.Needs.{needs}
+use Rattle.pages.specs.Pages.{pagesOf, ownerAt}
+use Rattle.pages.proofs.pages_of.Statement.{statement}
+use Rattle.pages.proofs.pages_of.Tie as tie
+
+returns : tie.Need-returns
+unfolding pagesOf ownerAt
+returns c = rw (← c .before .page-count .ensures, ← c .count-byte .ensures)
+
+pub pages-of-spec : {M : Type 1} → statement M
+pages-of-spec = tie.close (tie.spec (λ c. search needs) (λ c κs. search needs) (λ c κs. search needs) returns)

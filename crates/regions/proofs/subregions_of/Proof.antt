@@ -1,0 +1,67 @@
+use mathlib.Core.Path.{_≡_, ap, _∙_}
+use mathlib.Core.Bool.{Bool, not, _&&_}
+use mathlib.Core.Logic.{⊎-elim}
+use Prim.Native.Nat.{ℕ, _+_, _-_, _≤_}
+use native.Mathlib.Omega.{arith}
+use lib.Dec.{eqb}
+use borrow.Author.Needs.{needs}
+use borrow.Author.Tests.{eq-eqb, ne-eqb}
+use Rattle.lists.specs.Lists.{bit, count, upTo}
+use Rattle.lists.specs.Laws.Sums.{count-most}
+use Rattle.lists.specs.Laws.UpTo.{count-next, length-upTo}
+use Rattle.regions.specs.declared.Regions.{Regions}
+use Rattle.regions.specs.Regions.{nameAt, parentAt, subregionsOf}
+use Rattle.regions.proofs.subregions_of.Statement.{statement}
+use Rattle.regions.proofs.subregions_of.Tie as tie
+use Rattle.regions.proofs.subregions_of.Reads as reads
+use Rattle.regions.proofs.subregions_of.Lts as lts
+
+abbrev below : Regions → ℕ → ℕ → Bool
+below r t i = not (eqb (nameAt r i) 0) && eqb (parentAt r i) t
+
+abbrev Inv-loop : tie.InvT-loop
+Inv-loop r t k₀ i₀ k i = (i ≤ 64) × (k ≡ count (below r t) (upTo i))
+
+abbrev μ-loop : tie.MeasureT-loop
+μ-loop r t k₀ i₀ k i = 64 - i
+
+adds : (c : tie.Joined1 Inv-loop μ-loop) → let l = c .before .before .before in c .if1 .k ≡ l .loop .k + bit (below (l .before .args .r) (l .before .args .t) (l .loop .i))
+adds c =
+    rw (← c .before .name-at .ensures)
+    (⊎-elim
+    (λ w. rw (← w .1 .ensures, ne-eqb _ _ (w .0 .taken), eq-eqb _ _ (w .2 .taken)) (w .3))
+    (λ v. ⊎-elim (λ w. rw (← w .1 .ensures, ne-eqb _ _ (w .0 .taken), ne-eqb _ _ (w .2 .left)) (omega arith)) (λ w. rw (eq-eqb _ _ (w .0 .left)) (omega arith)) v)
+    (c .if1 .came))
+
+add-k : tie.Need-add-k Inv-loop μ-loop
+add-k c =
+    let l = c .before .before .before .before .before in
+    let i = l .loop .i in
+    omega (arith, count-most (below (l .before .args .r) (l .before .args .t)) (upTo i), length-upTo i)
+
+loop-again : tie.Need-loop-again Inv-loop μ-loop
+loop-again c =
+    let l = c .before .before .before in
+    omega (arith, adds c, count-next (below (l .before .args .r) (l .before .args .t)) (l .loop .i))
+
+returns : tie.Need-returns Inv-loop μ-loop
+unfolding subregionsOf
+returns c =
+    let l = c .before in
+    let e : l .loop .i ≡ 64 = omega arith in
+    l .loop .inv .1 ∙ ap (λ n. count (below (l .before .args .r) (l .before .args .t)) (upTo n)) e
+
+pub subregions-of-spec : {M : Type 1} → statement M
+subregions-of-spec =
+    tie.close
+    (tie.spec
+    Inv-loop
+    μ-loop
+    (λ c. search needs)
+    (λ c κs. search needs)
+    (λ c κs. search needs)
+    add-k
+    (λ c. search needs)
+    (λ c. search needs)
+    loop-again
+    returns)

@@ -1,0 +1,3 @@
+-- Laws of the functions of Regions, proved: nothing here has to be believed.
+pub mod Entries
+pub mod Counts
