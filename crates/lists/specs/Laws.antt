@@ -5,3 +5,5 @@ pub mod All
 pub mod Finds
 pub mod UpTo
 pub mod Sets
+pub mod Kept
+pub mod Every

@@ -1,7 +1,7 @@
 -- Objects in the heap: a header that holds the kind's number, then the words (document 01, The store). A pointer is 1 plus the header's place, so it is the place of word 0.
 -- Every reading is total; what these readings give of memory that the audit rejects is no promise to callers.
 -- Assumes nothing.
-use mathlib.Core.Bool.{Bool, _&&_}
+use mathlib.Core.Bool.{Bool, not, _&&_}
 use mathlib.Core.List.{List, [], _∷_, map}
 use Prim.Native.Nat.{ℕ, zero, suc, _+_, _-_, _*_}
 use lib.Dec.{eqb, ltb, leb}
@@ -10,7 +10,7 @@ use Rattle.lists.specs.Lists.{pick, keep, joined, upTo}
 use Rattle.kinds.specs.declared.Kinds.{Kinds}
 use Rattle.kinds.specs.Kinds.{sizeOf, markAt}
 use Rattle.pages.specs.declared.Pages.{Pages}
-use Rattle.pages.specs.Pages.{takenAt, ownerOf}
+use Rattle.pages.specs.Pages.{takenAt, ownerIn}
 
 -- the kind of the object that a pointer leads to, by its header; 0 for null
 unfoldable pub kindOf : List ℕ → ℕ → ℕ
@@ -34,9 +34,12 @@ walk k heap (suc n) p e =
     let rest = walk k heap n (p + 1 + s) e in
     pick (ltb 0 s && leb (p + 1 + s) e) (p ∷ rest) []
 
--- the headers on page j, as far as the state has the page taken (document 01, The calls, on audited memory)
+-- the headers on page j, as far as n words of it; and as far as the state has the page taken (document 01, The calls, on audited memory)
+unfoldable pub headersTo : Kinds → List ℕ → ℕ → ℕ → List ℕ
+headersTo k heap j n = walk k heap 64 (64 * j) (64 * j + n)
+
 unfoldable pub headersOn : Kinds → List ℕ → Pages → ℕ → List ℕ
-headersOn k heap p j = walk k heap 64 (64 * j) (64 * j + takenAt p j)
+headersOn k heap p j = headersTo k heap j (takenAt p j)
 
 -- what the words marked 1 hold: of the object whose header stands at place p, and of all objects on page j
 unfoldable pub freeWords : Kinds → List ℕ → ℕ → List ℕ
@@ -46,3 +49,8 @@ freeWords k heap p =
 
 unfoldable pub freeWordsOn : Kinds → List ℕ → Pages → ℕ → List ℕ
 freeWordsOn k heap p j = joined (freeWords k heap) (headersOn k heap p j)
+
+-- the tags of the regions that these words lead into, by the pages' owners; the region with the tag own is left out, since its own words are never counted
+-- for it (document 01, The store)
+unfoldable pub outOf : List ℕ → ℕ → List ℕ → List ℕ
+outOf owners own vs = keep (λ t. not (eqb t own)) (map (ownerIn owners) vs)

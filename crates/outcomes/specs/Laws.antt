@@ -9,3 +9,5 @@ pub mod Heap
 pub mod Shaped
 pub mod Values
 pub mod Keeps
+pub mod Begin
+pub mod Pointers

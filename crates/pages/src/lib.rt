@@ -28,15 +28,13 @@ pub fn page_count(p: Pages) -> u32
 pub fn owner_at(p: Pages, j: u32) -> u32
     ensures { λ r. ⌜ r ≡ ownerAt p j ⌝ }
 {
-    let a = p.owners;
-    cells::byte(&a, j as usize)
+    cells::byte(&p.owners, j as usize)
 }
 
 pub fn taken_at(p: Pages, j: u32) -> u32
     ensures { λ r. ⌜ r ≡ takenAt p j ⌝ }
 {
-    let a = p.taken;
-    cells::least(cells::byte(&a, j as usize), 64)
+    cells::least(cells::byte(&p.taken, j as usize), 64)
 }
 
 // The tag of the region that a pointer leads into.
@@ -53,8 +51,8 @@ pub fn owner_of(owners: &[u8], v: u32) -> u32
 pub fn pages_of(p: Pages, t: u32) -> u32
     ensures { λ r. ⌜ r ≡ pagesOf p t ⌝ }
 {
-    let a = p.owners;
-    cells::count_byte(&a, page_count(p), t)
+    let n = page_count(p);
+    cells::count_byte(&p.owners, n, t)
 }
 
 // The lowest free page, the number of pages where none is free.

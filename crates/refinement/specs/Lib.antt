@@ -1,1 +1,4 @@
 pub mod Represents
+pub mod Runs
+pub mod Rebuild
+pub mod Laws

@@ -52,6 +52,7 @@ pub record FramesAgree (sp : List ℕ) (fs : List (List ℕ)) (m : ℕ) (f : Fra
 pub record KindsAgree (ks : List (List ℕ)) (k : Kinds) : Type 0 where
   pub declared : k .declared ≡ length ks
   pub sizes : (n : ℕ) → sizeOf k n ≡ length (marks ks n)
+  pub few : (n : ℕ) → n < length ks → getD (k .sizes) n 0 ≤ 16
   pub marked : (n w : ℕ) → w < length (marks ks n) → markAt k n w ≡ getD (marks ks n) w 0
 
 -- the entry of a live region

@@ -1,3 +1,6 @@
 -- Laws of the functions of Regions, proved: nothing here has to be believed.
 pub mod Entries
 pub mod Counts
+pub mod Named
+pub mod Added
+pub mod Removed

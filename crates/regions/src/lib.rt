@@ -19,8 +19,7 @@ pub struct Regions {
 pub fn name_at(r: Regions, i: u32) -> u32
     ensures { λ n. ⌜ n ≡ nameAt r i ⌝ }
 {
-    let a = r.names;
-    cells::word(&a, i as usize)
+    cells::word(&r.names, i as usize)
 }
 
 // The name of the region with that tag, 0 for none.
@@ -40,30 +39,26 @@ pub fn entry_of(r: Regions, n: u32) -> u32
     if n == 0 {
         return 64;
     }
-    let a = r.names;
-    cells::find(&a, 64, n)
+    cells::find(&r.names, 64, n)
 }
 
 // The first entry that is not in use, 64 where all are.
 pub fn unused(r: Regions) -> u32
     ensures { λ i. ⌜ i ≡ unused r ⌝ }
 {
-    let a = r.names;
-    cells::find(&a, 64, 0)
+    cells::find(&r.names, 64, 0)
 }
 
 pub fn live_count(r: Regions) -> u32
     ensures { λ n. ⌜ n ≡ liveCount r ⌝ }
 {
-    let a = r.names;
-    64 - cells::count(&a, 64, 0)
+    64 - cells::count(&r.names, 64, 0)
 }
 
 pub fn parent_at(r: Regions, i: u32) -> u32
     ensures { λ n. ⌜ n ≡ parentAt r i ⌝ }
 {
-    let a = r.parents;
-    cells::byte(&a, i as usize)
+    cells::byte(&r.parents, i as usize)
 }
 
 // How many live regions are right below the one with that tag.
@@ -86,29 +81,25 @@ pub fn subregions_of(r: Regions, t: u32) -> u32
 pub fn level_at(r: Regions, i: u32) -> u32
     ensures { λ n. ⌜ n ≡ levelAt r i ⌝ }
 {
-    let a = r.levels;
-    cells::byte(&a, i as usize)
+    cells::byte(&r.levels, i as usize)
 }
 
 pub fn newest_at(r: Regions, i: u32) -> u32
     ensures { λ n. ⌜ n ≡ newestAt r i ⌝ }
 {
-    let a = r.newest;
-    cells::half(&a, i as usize)
+    cells::half(&r.newest, i as usize)
 }
 
 pub fn oldest_at(r: Regions, i: u32) -> u32
     ensures { λ n. ⌜ n ≡ oldestAt r i ⌝ }
 {
-    let a = r.oldest;
-    cells::word(&a, i as usize)
+    cells::word(&r.oldest, i as usize)
 }
 
 pub fn count_at(r: Regions, i: u32) -> u32
     ensures { λ n. ⌜ n ≡ countAt r i ⌝ }
 {
-    let a = r.counts;
-    cells::word(&a, i as usize)
+    cells::word(&r.counts, i as usize)
 }
 
 // Below the last name there is, `given + 1` does not wrap.

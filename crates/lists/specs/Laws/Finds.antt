@@ -1,14 +1,14 @@
 -- Laws of `any`, `every`, `find` and `keep`, and so of `among`, which is an `any`.
 -- Assumes nothing.
-use mathlib.Core.Path.{_≡_, refl, sym, ap, _∙_, fun-ext}
-use mathlib.Core.Bool.{Bool, true, false, not, _&&_, _||_, and-assoc, true≢false, false≢true}
+use mathlib.Core.Path.{_≡_, refl, sym, ap, ap₂, _∙_, fun-ext}
+use mathlib.Core.Bool.{Bool, true, false, _&&_, _||_, and-assoc, true≢false, false≢true, not}
 use mathlib.Core.List.{List, [], _∷_, _++_, map, append-assoc}
 use Prim.Native.Nat.{ℕ, zero, suc, _+_, _<_}
 use native.Mathlib.Nat.{le-of-suc-le-suc, not-suc-le-zero}
 use native.Mathlib.Omega.{arith}
 use lib.Dec.{eqb, ltb}
 use lib.ListN.{length, getD}
-use borrow.Author.Tests.{eqb-true, lt-ltb}
+use borrow.Author.Tests.{eqb-true, ltb-true, ltb-false, lt-ltb}
 use Rattle.lists.specs.Lists.{bit, pick, any, every, keep, find, sum, count, times, among, All, joined}
 use Rattle.lists.specs.Laws.Tests.{neither, both, by-test, bit-zero, pick-same}
 use Rattle.lists.specs.Laws.All.{all-map, all-in}
@@ -127,6 +127,11 @@ module _ {A : Type 0} where
   pub any-fewer : (f g : A → Bool) (l : List A) → any f l ≡ false → any f (keep g l) ≡ false
   any-fewer f g l e = false-any f (keep g l) (all-map (λ x h. h .0) (keep g l) (all-keep (λ x. f x ≡ false) g l (any-false f l e)))
 
+  -- tests that agree on the list's elements
+  pub every-same : (f g : A → Bool) (l : List A) → All (λ x. f x ≡ g x) l → every f l ≡ every g l
+  every-same f g [] h = refl
+  every-same f g (x ∷ xs) h = ap₂ _&&_ (h .0) (every-same f g xs (h .1))
+
   -- an element that passes
   pub any-in : (f : A → Bool) (l : List A) (i : ℕ) (d : A) → i < length l → f (getD l i d) ≡ true → any f l ≡ true
   any-in f l i d h e = by-test (any f l) (λ t. t) (λ t. absurd (true≢false (sym e ∙ all-in (λ x. f x ≡ false) l i d (any-false f l t) h)))
@@ -135,14 +140,20 @@ module _ {A : Type 0} where
   find-none f d [] e = refl
   find-none f d (x ∷ xs) e = let q = neither (f x) (any f xs) e in rw (q .0, find-none f d xs (q .1))
 
+  -- some element has a value that is not 0 where their sum is not 0
+  pub any-sum : (f : A → ℕ) (l : List A) → any (λ x. ltb 0 (f x)) l ≡ ltb 0 (sum f l)
+  any-sum f [] = refl
+  any-sum f (x ∷ xs) = rw (any-sum f xs) (by-test (ltb 0 (f x))
+      (λ e. rw e (sym (lt-ltb 0 (f x + sum f xs) (omega (arith, ltb-true 0 (f x) e)))))
+      (λ e. let z : f x + sum f xs ≡ sum f xs = omega (arith, ltb-false 0 (f x) e) in rw (z, e)))
+
   -- some element passes where their number is not 0
   pub any-count : (f : A → Bool) (l : List A) → any f l ≡ ltb 0 (count f l)
-  any-count f [] = refl
-  any-count f (x ∷ xs) = go (f x) (any-count f xs)
+  any-count f l = ap (λ g. any g l) (fun-ext (λ x. go (f x))) ∙ any-sum (λ x. bit (f x)) l
     where
-      go : (b : Bool) → any f xs ≡ ltb 0 (count f xs) → (b || any f xs) ≡ ltb 0 (bit b + count f xs)
-      go true e = sym (lt-ltb 0 (1 + count f xs) (omega arith))
-      go false e = let z : 0 + count f xs ≡ count f xs = omega arith in rw z e
+      go : (b : Bool) → b ≡ ltb 0 (bit b)
+      go true = refl
+      go false = refl
 
   -- none passes
   pub sum-none : (t : A → Bool) (f : A → ℕ) (l : List A) → All (λ x. t x ≡ false) l → sum (λ x. pick (t x) (f x) 0) l ≡ 0

@@ -1,6 +1,6 @@
 -- Laws of sums, and so of `count` and `times`, which are sums of bits.
 -- Assumes nothing.
-use mathlib.Core.Path.{_≡_, refl, ap, ap₂}
+use mathlib.Core.Path.{_≡_, refl, sym, ap, ap₂, _∙_}
 use mathlib.Core.Bool.{Bool, true, false, _||_}
 use mathlib.Core.List.{List, [], _∷_, _++_, map}
 use Prim.Native.Nat.{ℕ, zero, suc, _+_, _*_, _≤_, _<_}
@@ -33,6 +33,11 @@ module _ {A : Type 0} where
   sum-zero f [] e = tt
   sum-zero f (x ∷ xs) e = (omega arith, sum-zero f xs (omega arith))
 
+  -- nothing of each element comes to nothing
+  pub sum-nothing : (f : A → ℕ) → ((x : A) → f x ≡ 0) → (l : List A) → sum f l ≡ 0
+  sum-nothing f h [] = refl
+  sum-nothing f h (x ∷ xs) = omega (arith, h x, sum-nothing f h xs)
+
   -- functions that agree on the list's elements
   pub sum-same : (f g : A → ℕ) (l : List A) → All (λ x. f x ≡ g x) l → sum f l ≡ sum g l
   sum-same f g [] h = refl
@@ -53,6 +58,10 @@ module _ {A : Type 0} where
   sum-pick true f l = refl
   sum-pick false f [] = refl
   sum-pick false f (x ∷ xs) = omega (arith, sum-pick false f xs)
+
+  pub sum-ones : (l : List A) → sum (λ x. 1) l ≡ length l
+  sum-ones [] = refl
+  sum-ones (x ∷ xs) = omega (arith, sum-ones xs)
 
   -- only those kept are added up
   pub sum-keep : (f : A → ℕ) (g : A → Bool) (l : List A) → sum f (keep g l) ≡ sum (λ x. pick (g x) (f x) 0) l
@@ -87,6 +96,11 @@ module _ {A B : Type 0} where
   pub sum-joined : (f : B → ℕ) (g : A → List B) (l : List A) → sum f (joined g l) ≡ sum (λ x. sum f (g x)) l
   sum-joined f g [] = refl
   sum-joined f g (x ∷ xs) = omega (arith, sum-append f (g x) (joined g xs), sum-joined f g xs)
+
+  -- a sum of sums, in either order
+  pub sum-swap : (f : A → B → ℕ) (xs : List A) (ys : List B) → sum (λ x. sum (f x) ys) xs ≡ sum (λ y. sum (λ x. f x y) xs) ys
+  sum-swap f [] ys = sym (sum-pick false (λ y. 0) ys)
+  sum-swap f (x ∷ xs) ys = ap (λ n. sum (f x) ys + n) (sum-swap f xs ys) ∙ sym (sum-plus (f x) (λ y. sum (λ x. f x y) xs) ys)
 
   -- what passes some test is added up under one test at least
   pub sum-any : (t : B → A → Bool) (f : A → ℕ) (l : List A) (ys : List B) → sum (λ x. pick (any (λ y. t y x) ys) (f x) 0) l ≤ sum (λ y. sum (λ x. pick (t y x) (f x) 0) l) ys
@@ -124,6 +138,11 @@ module _ {A B : Type 0} where
   sum₂-same f g [] ys h = refl
   sum₂-same f g (x ∷ xs) [] h = refl
   sum₂-same f g (x ∷ xs) (y ∷ ys) h = ap₂ _+_ (h .0) (sum₂-same f g xs ys (h .1))
+
+  pub sum₂-nothing : (f : A → B → ℕ) → ((x : A) (y : B) → f x y ≡ 0) → (xs : List A) (ys : List B) → sum₂ f xs ys ≡ 0
+  sum₂-nothing f h [] ys = refl
+  sum₂-nothing f h (x ∷ xs) [] = refl
+  sum₂-nothing f h (x ∷ xs) (y ∷ ys) = omega (arith, h x y, sum₂-nothing f h xs ys)
 
   pub sum₂-none : (f : A → B → ℕ) (xs : List A) (n : ℕ) (y : B) → ((x : A) → f x y ≡ 0) → sum₂ f xs (replicate n y) ≡ 0
   sum₂-none f [] n y h = refl

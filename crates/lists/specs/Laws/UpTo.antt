@@ -8,14 +8,14 @@ use Prim.Native.Nat.{ℕ, zero, suc, _+_, _<_, _≤_}
 use native.Mathlib.Nat.{le-of-suc-le-suc, not-suc-le-zero}
 use native.Mathlib.Numerals.{add-one}
 use native.Mathlib.Omega.{arith}
-use lib.Dec.{ltb}
-use lib.ListN.{length, getD, take, drop, length-map, drop-of-length-le}
-use lib.Seq.{take-length, drop-cons}
-use borrow.Author.Tests.{ltb-true, ltb-false}
+use lib.Dec.{eqb, ltb}
+use lib.ListN.{length, getD, drop, length-map, drop-of-length-le}
+use lib.Seq.{take-length, drop-cons, slice, slice-empty, slice-cons}
+use borrow.Author.Tests.{eqb-true, eq-eqb, ne-eqb, ltb-true, ltb-false}
 use Rattle.lists.specs.Lists.{bit, pick, any, every, keep, find, sum, sum₂, count, All, joined, from, upTo}
 use Rattle.lists.specs.Laws.Tests.{by-test, by-same}
 use Rattle.lists.specs.Laws.All.{all-in}
-use Rattle.lists.specs.Laws.Sums.{sum-append, sum-same}
+use Rattle.lists.specs.Laws.Sums.{sum-append, sum-same, sum-zero}
 use Rattle.lists.specs.Laws.Finds.{any-append, any-false, false-any, any-in, every-append, every-true, true-every, keep-append, joined-append, map-append, getD-map-in, find-append, find-none, find-passes, all-found}
 
 from-last : (k n : ℕ) → from k (suc n) ≡ from k n ++ ((k + n) ∷ [])
@@ -29,6 +29,9 @@ pub upTo-next : (n : ℕ) → upTo (n + 1) ≡ upTo n ++ (n ∷ [])
 upTo-next n = ap upTo (add-one n) ∙ upTo-suc n
 
 -- ---- one number more
+
+pub sum-from-suc : (f : ℕ → ℕ) (k n : ℕ) → sum f (from k (suc n)) ≡ sum f (from k n) + f (k + n)
+sum-from-suc f k n = ap (sum f) (from-last k n) ∙ omega (arith, sum-append f (from k n) ((k + n) ∷ []))
 
 module _ (f : ℕ → ℕ) (n : ℕ) where
   pub sum-suc : sum f (upTo (suc n)) ≡ sum f (upTo n) + f n
@@ -98,15 +101,22 @@ getD-map-upTo f d n i h = getD-map-in f (upTo n) i d 0 (rw (length-upTo n) h) �
 pub length-map-upTo : {A : Type 0} (f : ℕ → A) (n : ℕ) → length (map f (upTo n)) ≡ n
 length-map-upTo f n = length-map (upTo n) f ∙ length-upTo n
 
--- ---- the elements at the places of a list, added up
+-- ---- the elements at the places of a list, added up or tested
 
--- at n places from k on
-pub sum-part : {A : Type 0} (f : A → ℕ) (l : List A) (d : A) (k n : ℕ) → k + n ≤ length l → sum (λ i. f (getD l i d)) (from k n) ≡ sum f (take n (drop k l))
-sum-part f l d k zero h = refl
-sum-part f l d k (suc n) h = rw (drop-cons l k d (omega arith)) (ap (λ m. f (getD l k d) + m) (sum-part f l d (suc k) n (omega arith)))
+-- at the places from k up to m
+pub sum-part : {A : Type 0} (f : A → ℕ) (l : List A) (d : A) (k n m : ℕ) → k + n ≡ m → m ≤ length l → sum (λ i. f (getD l i d)) (from k n) ≡ sum f (slice k m l)
+sum-part f l d k zero m e h = let q : m ≡ k = omega arith in rw (q, slice-empty k l)
+sum-part f l d k (suc n) m e h = rw (slice-cons k m l d (omega arith) h) (ap (λ x. f (getD l k d) + x) (sum-part f l d (suc k) n m (omega arith) h))
 
 pub sum-places : {A : Type 0} (f : A → ℕ) (l : List A) (d : A) → sum (λ i. f (getD l i d)) (upTo (length l)) ≡ sum f l
-sum-places f l d = sum-part f l d 0 (length l) (omega arith) ∙ ap (sum f) (take-length l)
+sum-places f l d = sum-part f l d 0 (length l) (length l) (omega arith) (omega arith) ∙ ap (sum f) (take-length l)
+
+every-part : {A : Type 0} (f : A → Bool) (l : List A) (d : A) (k n : ℕ) → k + n ≡ length l → every (λ i. f (getD l i d)) (from k n) ≡ every f (drop k l)
+every-part f l d k zero h = rw (drop-of-length-le l {i = k} (omega arith))
+every-part f l d k (suc n) h = rw (drop-cons l k d (omega arith)) (ap (λ b. f (getD l k d) && b) (every-part f l d (suc k) n (omega arith)))
+
+pub every-places : {A : Type 0} (f : A → Bool) (l : List A) (d : A) → every (λ i. f (getD l i d)) (upTo (length l)) ≡ every f l
+every-places f l d = every-part f l d 0 (length l) (omega arith)
 
 module _ {A B : Type 0} (f : A → B → ℕ) (xs : List A) (ys : List B) (d : A) (e : B) where
   sum₂-part : (k n : ℕ) → k + n ≡ length xs → k + n ≡ length ys → sum (λ i. f (getD xs i d) (getD ys i e)) (from k n) ≡ sum₂ f (drop k xs) (drop k ys)
@@ -121,7 +131,7 @@ module _ {A B : Type 0} (f : A → B → ℕ) (xs : List A) (ys : List B) (d : A
 -- ---- what holds of each number below n
 
 module _ (P : ℕ → Type 0) where
-  all-from : (k n : ℕ) → ((i : ℕ) → k ≤ i → i < k + n → P i) → All P (from k n)
+  pub all-from : (k n : ℕ) → ((i : ℕ) → k ≤ i → i < k + n → P i) → All P (from k n)
   all-from k zero h = tt
   all-from k (suc n) h = (h k (omega arith) (omega arith), all-from (suc k) n (λ i a b. h i (omega arith) (omega arith)))
 
@@ -162,6 +172,16 @@ sum-change f g (suc n) k h same = go (by-same k n) (sum-change f g n k)
         → sum f (upTo (suc n)) + g k ≡ sum g (upTo (suc n)) + f k
     go (inl e) ih = rw (e, sum-suc f n, sum-suc g n, sum-below f g n (λ i a. same i (omega arith) (λ q. omega arith))) (omega arith)
     go (inr e) ih = rw (sum-suc f n, sum-suc g n, same n (omega arith) (λ q. e (sym q))) (omega (arith, ih (omega arith) (λ i a. same i (omega arith))))
+
+-- where at most one number below n passes, two that pass are one
+pub one-passes : (f : ℕ → Bool) (n i j : ℕ) → count f (upTo n) ≤ 1 → i < n → j < n → f i ≡ true → f j ≡ true → j ≡ i
+one-passes f n i j h a b p q =
+    by-test (eqb j i) (eqb-true j i) (λ e.
+    let rest : ℕ → ℕ = λ k. pick (eqb k i) 0 (bit (f k)) in
+    let c = sum-change (λ k. bit (f k)) rest n i a (λ k l o. rw (ne-eqb k i o)) in
+    let z : rest i ≡ 0 = rw (eq-eqb i i refl) in
+    let o : rest j ≡ 1 = rw (e, q) in
+    absurd (omega (arith, c, z, o, ap bit p, upTo-all (λ k. rest k ≡ 0) n (sum-zero rest (upTo n) (omega (arith, c, z, ap bit p))) j b)))
 
 -- ---- the first number below n that passes
 

@@ -46,7 +46,7 @@ module _ (L : Model) (v : Valid L) (r : ℕ) (l : livesIn L r ≡ true) (n : eqb
   zero-away : eqb 0 r ≡ false
   zero-away = ne-eqb 0 r (λ e. true≢false (sym l ∙ sym (ap (livesIn L) e) ∙ live-zero (L .regions) (v .names .named)))
 
-  parent-away : (q : ℕ) → eqb (parentIn L q) r ≡ false
+  pub parent-away : (q : ℕ) → eqb (parentIn L q) r ≡ false
   parent-away q = all-find (λ g. eqb (g .parent) r ≡ false) (called q) noRegion (L .regions)
       (all-map (λ g e. bit-zero (eqb (g .parent) r) e) (L .regions) (sum-zero (λ g. bit (eqb (g .parent) r)) (L .regions) subs)) zero-away
 

@@ -9,11 +9,11 @@ use native.Mathlib.Omega.{arith}
 use lib.Dec.{eqb, leb}
 use lib.ListN.{length, getD, set, List·getD-append, List·getD-eq-default}
 use lib.Seq.{getD-append-seam}
-use borrow.Author.Tests.{eqb-true, ne-eqb, leb-true, leb-false}
-use Rattle.lists.specs.Lists.{pick, keep, All}
-use Rattle.lists.specs.Laws.Tests.{by-test}
-use Rattle.lists.specs.Laws.All.{all-map}
-use Rattle.lists.specs.Laws.Finds.{any-append, find-append, find-passes, all-find, any-keep, any-thrown, find-keep, false-any, any-fewer}
+use borrow.Author.Tests.{eqb-true, eq-eqb, ne-eqb, ltb-false, leb-true, leb-false}
+use Rattle.lists.specs.Lists.{bit, pick, keep, count, All}
+use Rattle.lists.specs.Laws.Tests.{by-test, eqb-sym}
+use Rattle.lists.specs.Laws.All.{all-map, all-both}
+use Rattle.lists.specs.Laws.Finds.{any-append, find-append, find-passes, all-find, any-keep, any-thrown, find-keep, any-false, false-any, any-count, any-fewer}
 use Rattle.model.specs.Model.{Object, Region, noObject, noRegion, called, live, region, homeOf, object}
 use Rattle.model.specs.Calls.{replaced, withWord, others}
 use Rattle.model.specs.Valid.{Distinct, levelOf}
@@ -37,6 +37,22 @@ live-all P gs r h z l = rw (name-is gs r l) at (all-find (λ g. P (g .name)) (ca
 pub level-is : (gs : List Region) (r : ℕ) → live gs 0 ≡ false → live gs r ≡ true → levelOf gs r ≡ (region gs r) .level
 level-is gs zero z l = absurd (true≢false (sym l ∙ z))
 level-is gs (suc r) z l = refl
+
+-- at most one region has a given name, and it is the one found under its name
+pub distinct-once : (gs : List Region) → Distinct gs → (r : ℕ) → count (called r) gs ≤ 1
+distinct-once [] d r = omega arith
+distinct-once (x ∷ xs) d r = go (eqb (x .name) r) refl (distinct-once xs (d .1) r)
+  where
+    go : (b : Bool) → eqb (x .name) r ≡ b → count (called r) xs ≤ 1 → bit b + count (called r) xs ≤ 1
+    go true e h = omega (arith, ltb-false 0 (count (called r) xs) (sym (any-count (called r) xs) ∙ ap (live xs) (sym (eqb-true (x .name) r e)) ∙ d .0))
+    go false e h = omega arith
+
+pub found-itself : (gs : List Region) → Distinct gs → All (λ g. region gs (g .name) ≡ g) gs
+found-itself [] d = tt
+found-itself (g ∷ gs) d = (
+  rw (eq-eqb (g .name) (g .name) refl),
+  all-map (λ x h. rw (eqb-sym (g .name) (x .name), h .0) (h .1)) gs (all-both _ _ gs (any-false (called (g .name)) gs (d .0)) (found-itself gs (d .1))),
+)
 
 -- ---- one region more
 
@@ -69,6 +85,14 @@ module _ (f : Region → Region) (k : (g : Region) → (f g) .name ≡ g .name) 
   pub distinct-map : (gs : List Region) → Distinct gs → Distinct (map f gs)
   distinct-map [] d = tt
   distinct-map (g ∷ gs) d = (rw (k g, live-map gs (g .name)) (d .0), distinct-map gs (d .1))
+
+  pub region-map : (gs : List Region) (r : ℕ) → live gs r ≡ true → region (map f gs) r ≡ f (region gs r)
+  region-map [] r l = absurd (true≢false (sym l))
+  region-map (g ∷ gs) r l = subst⁻¹ (λ n. pick (eqb n r) (f g) (region (map f gs) r) ≡ f (pick (eqb (g .name) r) g (region gs r))) (k g) (go (eqb (g .name) r) l (region-map gs r))
+    where
+      go : (b : Bool) → (b || live gs r) ≡ true → (live gs r ≡ true → region (map f gs) r ≡ f (region gs r)) → pick b (f g) (region (map f gs) r) ≡ f (pick b g (region gs r))
+      go true l h = refl
+      go false l h = h l
 
   -- and a field
   pub find-map : {X : Type 0} (field : Region → X) → ((g : Region) → field (f g) ≡ field g) → (gs : List Region) (r : ℕ) → field (region (map f gs) r) ≡ field (region gs r)

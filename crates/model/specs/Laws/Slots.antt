@@ -112,17 +112,17 @@ module _ (L : Model) (v : Valid L) where
       let f = all₂-in _ (heldMarks L s) ((held L s) .words) w 0 0 (o .marked l) (omega (arith, o .sized)) k in
       fill-valid t (getD ((held L s) .words) w 0) (both _ _ (or-other (eqb (markAt L s w) 0) _ f (c .1 .1 .1 .1 .0)) .0)
 
+  -- a region's oldest object is null or lives
+  pub oldest-known : (r : ℕ) → livesIn L r ≡ true → Known L ((region (L .regions) r) .oldest)
+  oldest-known r l = go (eqb ((region (L .regions) r) .oldest) 0) (all-find (OwnOldest (homeIn L)) (called r) noRegion (L .regions) (v .oldest) refl)
+    where
+      go : (b : Bool) → (b || eqb (homeIn L ((region (L .regions) r) .oldest)) ((region (L .regions) r) .name)) ≡ true → (b || livesIn L (homeIn L ((region (L .regions) r) .oldest))) ≡ true
+      go true e = refl
+      go false e = rw (eqb-true (homeIn L ((region (L .regions) r) .oldest)) ((region (L .regions) r) .name) e ∙ name-is (L .regions) r l) l
+
   pub first-valid : (s r : ℕ) → refusal L (first s r) ≡ 0 → Valid (accepted L (first s r))
   unfolding accepted checks
-  first-valid s r e =
-      let l = not-false (livesIn L r) (passed L (first s r) e .1 .1 .0) in
-      let g = region (L .regions) r in
-      fill-valid s (g .oldest) (go (eqb (g .oldest) 0) l (all-find (OwnOldest (homeIn L)) (called r) noRegion (L .regions) (v .oldest) refl))
-    where
-      go : (b : Bool) → livesIn L r ≡ true → (b || eqb (homeIn L ((region (L .regions) r) .oldest)) ((region (L .regions) r) .name)) ≡ true
-          → (b || livesIn L (homeIn L ((region (L .regions) r) .oldest))) ≡ true
-      go true l e = refl
-      go false l e = rw (eqb-true (homeIn L ((region (L .regions) r) .oldest)) ((region (L .regions) r) .name) e ∙ name-is (L .regions) r l) l
+  first-valid s r e = fill-valid s ((region (L .regions) r) .oldest) (oldest-known r (not-false (livesIn L r) (passed L (first s r) e .1 .1 .0)))
 
   -- ---- words
 

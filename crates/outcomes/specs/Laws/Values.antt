@@ -19,7 +19,7 @@ use Rattle.regions.specs.declared.Regions.{Regions}
 use Rattle.regions.specs.Regions.{nameAt, nameOf, parentAt, liveCount, subregionsOf, countAt, oldestAt}
 use Rattle.pages.specs.declared.Pages.{Pages}
 use Rattle.pages.specs.Pages.{pageCount, ownerAt, takenAt, ownerOf, pagesOf}
-use Rattle.objects.specs.Objects.{kindOf, wordAt, walk, headersOn, freeWords, freeWordsOn}
+use Rattle.objects.specs.Objects.{kindOf, wordAt, walk, headersTo, headersOn, freeWords, freeWordsOn}
 use Rattle.outcomes.specs.Store.{Store, frames, kinds, regions, pages, slotsInto, wordsInto, outsideOf}
 use Rattle.outcomes.specs.Shape.{FramesShaped, RegionsShaped, Shaped}
 use Rattle.outcomes.specs.Laws.Shaped.{array-at, pick-below}
@@ -56,8 +56,9 @@ free-most k heap p =
     let n = getD heap p 0 in
     rw (length-map, length-keep) (omega (arith, count-most (λ w. eqb (markAt k n w) 1) (upTo (sizeOf k n)), length-upTo (sizeOf k n), size-most k n))
 
-page-most : (k : Kinds) (heap : List ℕ) (p : Pages) (j : ℕ) → length (freeWordsOn k heap p j) ≤ 1024
-unfolding freeWordsOn headersOn
+-- at most 64 objects of at most 16 words stand on a page
+pub page-most : (k : Kinds) (heap : List ℕ) (p : Pages) (j : ℕ) → length (freeWordsOn k heap p j) ≤ 1024
+unfolding freeWordsOn headersOn headersTo
 page-most k heap p j =
     let l = walk k heap 64 (64 * j) (64 * j + takenAt p j) in
     omega (arith, joined-most (freeWords k heap) 16 l (free-most k heap), walk-most k heap 64 (64 * j) (64 * j + takenAt p j))

@@ -8,4 +8,4 @@ unfolding ownerAt
 returns c = rw (← c .byte .ensures)
 
 pub owner-at-spec : {M : Type 1} → statement M
-owner-at-spec = tie.close (tie.spec (λ c. search needs) (λ c κs. search needs) returns)
+owner-at-spec = tie.close (tie.spec (λ c κs. search needs) returns)

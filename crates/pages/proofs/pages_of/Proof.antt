@@ -5,7 +5,7 @@ use Rattle.pages.proofs.pages_of.Tie as tie
 
 returns : tie.Need-returns
 unfolding pagesOf ownerAt
-returns c = rw (← c .before .page-count .ensures, ← c .count-byte .ensures)
+returns c = rw (← c .before .before .before .before .page-count .ensures, ← c .count-byte .ensures)
 
 pub pages-of-spec : {M : Type 1} → statement M
-pages-of-spec = tie.close (tie.spec (λ c. search needs) (λ c κs. search needs) (λ c κs. search needs) returns)
+pages-of-spec = tie.close (tie.spec (λ c κs. search needs) (λ c κs. search needs) returns)

@@ -8,4 +8,4 @@ unfolding takenAt
 returns c = rw (← c .before .byte .ensures, ← c .least .ensures)
 
 pub taken-at-spec : {M : Type 1} → statement M
-taken-at-spec = tie.close (tie.spec (λ c. search needs) (λ c κs. search needs) (λ c κs. search needs) returns)
+taken-at-spec = tie.close (tie.spec (λ c κs. search needs) (λ c κs. search needs) returns)

@@ -8,4 +8,4 @@ unfolding countAt
 returns c = rw (← c .word .ensures)
 
 pub count-at-spec : {M : Type 1} → statement M
-count-at-spec = tie.close (tie.spec (λ c. search needs) (λ c κs. search needs) returns)
+count-at-spec = tie.close (tie.spec (λ c κs. search needs) returns)

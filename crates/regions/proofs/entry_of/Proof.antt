@@ -10,7 +10,7 @@ returns c = simp (eq-eqb _ _ (c .if1 .taken))
 
 returns-2 : tie.Need-returns-2
 unfolding entryOf nameAt
-returns-2 c = rw (← c .find .ensures) (simp (ne-eqb _ _ (c .before .before .before .if1 .left)))
+returns-2 c = rw (← c .find .ensures) (simp (ne-eqb _ _ (c .before .before .before .before .if1 .left)))
 
 pub entry-of-spec : {M : Type 1} → statement M
-entry-of-spec = tie.close (tie.spec returns (λ c. search needs) (λ c κs. search needs) returns-2)
+entry-of-spec = tie.close (tie.spec returns (λ c κs. search needs) returns-2)

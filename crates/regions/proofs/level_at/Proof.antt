@@ -8,4 +8,4 @@ unfolding levelAt
 returns c = rw (← c .byte .ensures)
 
 pub level-at-spec : {M : Type 1} → statement M
-level-at-spec = tie.close (tie.spec (λ c. search needs) (λ c κs. search needs) returns)
+level-at-spec = tie.close (tie.spec (λ c κs. search needs) returns)

@@ -7,9 +7,9 @@ use Rattle.regions.specs.Laws.Entries.{live-unused}
 use Rattle.regions.proofs.live_count.Statement.{statement}
 use Rattle.regions.proofs.live_count.Tie as tie
 
-all : (c : tie.After-count) → liveCount (c .before .before .before .args .r) + c .count .result ≡ 64
+all : (c : tie.After-count) → liveCount (c .before .before .before .before .args .t1) + c .count .result ≡ 64
 unfolding nameAt
-all c = rw (c .count .ensures) (live-unused (c .before .before .before .args .r))
+all c = rw (c .count .ensures) (live-unused (c .before .before .before .before .args .t1))
 
 pub live-count-spec : {M : Type 1} → statement M
-live-count-spec = tie.close (tie.spec (λ c. search needs) (λ c κs. search needs) (λ c. omega (arith, all c)) (λ c. omega (arith, all c)))
+live-count-spec = tie.close (tie.spec (λ c κs. search needs) (λ c. omega (arith, all c)) (λ c. omega (arith, all c)))

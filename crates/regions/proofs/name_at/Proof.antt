@@ -8,4 +8,4 @@ unfolding nameAt
 returns c = rw (← c .word .ensures)
 
 pub name-at-spec : {M : Type 1} → statement M
-name-at-spec = tie.close (tie.spec (λ c. search needs) (λ c κs. search needs) returns)
+name-at-spec = tie.close (tie.spec (λ c κs. search needs) returns)

@@ -8,4 +8,4 @@ unfolding newestAt
 returns c = rw (← c .half .ensures)
 
 pub newest-at-spec : {M : Type 1} → statement M
-newest-at-spec = tie.close (tie.spec (λ c. search needs) (λ c κs. search needs) returns)
+newest-at-spec = tie.close (tie.spec (λ c κs. search needs) returns)

@@ -8,4 +8,4 @@ unfolding oldestAt
 returns c = rw (← c .word .ensures)
 
 pub oldest-at-spec : {M : Type 1} → statement M
-oldest-at-spec = tie.close (tie.spec (λ c. search needs) (λ c κs. search needs) returns)
+oldest-at-spec = tie.close (tie.spec (λ c κs. search needs) returns)

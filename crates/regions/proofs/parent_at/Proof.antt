@@ -8,4 +8,4 @@ unfolding parentAt
 returns c = rw (← c .byte .ensures)
 
 pub parent-at-spec : {M : Type 1} → statement M
-parent-at-spec = tie.close (tie.spec (λ c. search needs) (λ c κs. search needs) returns)
+parent-at-spec = tie.close (tie.spec (λ c κs. search needs) returns)

@@ -8,4 +8,4 @@ unfolding unused nameAt
 returns c = rw (← c .find .ensures)
 
 pub unused-spec : {M : Type 1} → statement M
-unused-spec = tie.close (tie.spec (λ c. search needs) (λ c κs. search needs) returns)
+unused-spec = tie.close (tie.spec (λ c κs. search needs) returns)

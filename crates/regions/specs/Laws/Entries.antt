@@ -1,17 +1,19 @@
 -- Laws of the entries.
 -- Assumes nothing.
-use mathlib.Core.Path.{_≡_, refl, _∙_}
+use mathlib.Core.Path.{_≡_, refl, ap, _∙_}
 use mathlib.Core.Bool.{Bool, true, false, not}
 use mathlib.Core.Logic.{_≢_}
 use mathlib.Core.List.{List, [], _∷_}
-use Prim.Native.Nat.{ℕ, zero, suc, _+_, _-_}
+use Prim.Native.Nat.{ℕ, zero, suc, _+_, _-_, _<_}
 use native.Mathlib.Omega.{arith}
 use lib.Dec.{eqb}
-use lib.ListN.{length, getD}
-use Rattle.lists.specs.Lists.{bit, count, upTo}
-use Rattle.lists.specs.Laws.UpTo.{length-upTo}
+use lib.ListN.{length}
+use borrow.Author.Tests.{eqb-true, ne-eqb, lt-ltb}
+use Rattle.lists.specs.Lists.{bit, any, find, count, upTo}
+use Rattle.lists.specs.Laws.Finds.{any-count}
+use Rattle.lists.specs.Laws.UpTo.{length-upTo, find-found}
 use Rattle.regions.specs.declared.Regions.{Regions}
-use Rattle.regions.specs.Regions.{nameAt, nameOf, liveCount}
+use Rattle.regions.specs.Regions.{nameAt, nameOf, entryOf, liveCount, unused}
 
 count-not : (f : ℕ → Bool) (l : List ℕ) → count (λ i. not (f i)) l + count f l ≡ length l
 count-not f [] = refl
@@ -31,7 +33,30 @@ unfolding nameOf nameAt
 name-some r zero h = absurd (h refl)
 name-some r (suc i) h = let e : suc i - 1 ≡ i = omega arith in rw e
 
+pub name-of : (r : Regions) (i : ℕ) → nameOf r (i + 1) ≡ nameAt r i
+name-of r i = let e : i + 1 - 1 ≡ i = omega arith in name-some r (i + 1) (λ q. omega arith) ∙ ap (nameAt r) e
+
+-- the entry of a name
+pub entry-find : (r : Regions) (n : ℕ) → n ≢ 0 → entryOf r n ≡ find (λ i. eqb (nameAt r i) n) 64 (upTo 64)
+unfolding entryOf
+entry-find r n h = rw (ne-eqb n 0 h)
+
+pub entry-found : (r : Regions) (n : ℕ) → n ≢ 0 → any (λ i. eqb (nameAt r i) n) (upTo 64) ≡ true → (entryOf r n < 64) × (nameAt r (entryOf r n) ≡ n)
+entry-found r n h e =
+    let f = find-found (λ i. eqb (nameAt r i) n) 64 64 e in
+    rw (entry-find r n h) (f .0, eqb-true (nameAt r (find (λ i. eqb (nameAt r i) n) 64 (upTo 64))) n (f .1))
+
 -- the entries in use and those not in use are all
 pub live-unused : (r : Regions) → liveCount r + count (λ i. eqb (nameAt r i) 0) (upTo 64) ≡ 64
 unfolding liveCount
 live-unused r = count-not (λ i. eqb (nameAt r i) 0) (upTo 64) ∙ length-upTo 64
+
+pub unused-found : (r : Regions) → liveCount r < 64 → (unused r < 64) × (nameAt r (unused r) ≡ 0)
+unfolding unused
+unused-found r h =
+    let none : ℕ → Bool = λ i. eqb (nameAt r i) 0 in
+    let f = find-found none 64 64 (any-count none (upTo 64) ∙ lt-ltb 0 (count none (upTo 64)) (rest (liveCount r) (count none (upTo 64)) (live-unused r) h)) in
+    (f .0, eqb-true (nameAt r (find none 64 (upTo 64))) 0 (f .1))
+  where
+    rest : (a b : ℕ) → a + b ≡ 64 → a < 64 → 0 < b
+    rest a b e k = omega arith

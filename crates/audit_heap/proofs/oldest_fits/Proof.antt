@@ -1,0 +1,26 @@
+use borrow.Author.Needs.{needs}
+use borrow.Author.Tests.{eq-eqb, ne-eqb, not-true, not-false}
+use Rattle.pages.specs.Pages.{ownerOf}
+use Rattle.audit_heap.specs.Heap.{oldestFits}
+use Rattle.audit_heap.proofs.oldest_fits.Statement.{statement}
+use Rattle.audit_heap.proofs.oldest_fits.Tie as tie
+
+returns : tie.Need-returns
+unfolding oldestFits
+returns c = rw (← c .before .oldest-at .ensures) (simp (eq-eqb _ _ (c .if1 .taken)))
+
+returns-2 : tie.Need-returns-2
+unfolding oldestFits
+returns-2 c =
+    let v = c .before .before in
+    rw (← v .before .oldest-at .ensures, ← c .before .stands-at .ensures) (simp (ne-eqb _ _ (v .if1 .left), not-true (c .before .stands-at .result) (c .if2 .taken)))
+
+returns-3 : tie.Need-returns-3
+unfolding oldestFits ownerOf
+returns-3 c =
+    let m = c .before .before .before .before in
+    let v = m .before .before in
+    rw (← v .before .oldest-at .ensures, ← m .before .stands-at .ensures, ← c .owner-of .ensures) (simp (ne-eqb _ _ (v .if1 .left), not-false (m .before .stands-at .result) (m .if2 .left)))
+
+pub oldest-fits-spec : {M : Type 1} → statement M
+oldest-fits-spec = tie.close (tie.spec (λ c κs. search needs) returns (λ c. search needs) (λ c κs. search needs) returns-2 (λ c κs. search needs) (λ c. search needs) (λ c. search needs) returns-3)

@@ -1,0 +1,2 @@
+-- Laws of the walk of a page, proved.
+pub mod Walks

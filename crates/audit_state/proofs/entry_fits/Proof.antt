@@ -1,0 +1,16 @@
+use borrow.Author.Needs.{needs}
+use borrow.Author.Tests.{eq-eqb, ne-eqb}
+use Rattle.audit_state.specs.Fits.{entryFits}
+use Rattle.audit_state.proofs.entry_fits.Statement.{statement}
+use Rattle.audit_state.proofs.entry_fits.Tie as tie
+
+returns : tie.Need-returns
+unfolding entryFits
+returns c = rw (← c .before .name-at .ensures) (simp (eq-eqb _ _ (c .if1 .taken)))
+
+returns-2 : tie.Need-returns-2
+unfolding entryFits
+returns-2 c = rw (← c .before .before .name-at .ensures, ← c .region-fits .ensures) (simp (ne-eqb _ _ (c .before .if1 .left)))
+
+pub entry-fits-spec : {M : Type 1} → statement M
+entry-fits-spec = tie.close (tie.spec (λ c κs. search needs) returns (λ c κs. search needs) returns-2)

@@ -1,0 +1,31 @@
+use borrow.Author.Needs.{needs}
+use borrow.Author.Tests.{eq-eqb, ne-eqb}
+use Rattle.audit_state.specs.Fits.{placedAt}
+use Rattle.audit_state.proofs.placed.Statement.{statement}
+use Rattle.audit_state.proofs.placed.Tie as tie
+
+returns : tie.Need-returns
+unfolding placedAt
+returns c = rw (← c .before .before .parent-at .ensures, ← c .before .level-at .ensures) (simp (eq-eqb _ _ (c .if1 .taken)))
+
+returns-2 : tie.Need-returns-2
+unfolding placedAt
+returns-2 c =
+    rw (← c .before .before .before .before .parent-at .ensures, ← c .before .before .before .level-at .ensures, ← c .before .name-at .ensures)
+    (simp (ne-eqb _ _ (c .before .before .if1 .left), eq-eqb _ _ (c .if2 .taken)))
+
+returns-3 : tie.Need-returns-3
+unfolding placedAt
+returns-3 c =
+    rw (← c .before .before .before .before .before .before .parent-at .ensures, ← c .before .before .before .before .before .level-at .ensures, ← c .before .before .before .name-at .ensures, ← c .before .level-at2 .ensures)
+    (simp (ne-eqb _ _ (c .before .before .before .before .if1 .left), ne-eqb _ _ (c .before .before .if2 .left), ne-eqb _ _ (c .if3 .taken)))
+
+returns-4 : tie.Need-returns-4
+unfolding placedAt
+returns-4 c =
+    let b = c .before .before .before in
+    rw (← b .before .before .before .before .parent-at .ensures, ← b .before .before .before .level-at .ensures, ← b .before .name-at .ensures, ← c .before .before .level-at2 .ensures, ← c .name-at2 .ensures)
+    (simp (ne-eqb _ _ (b .before .before .if1 .left), ne-eqb _ _ (b .if2 .left), eq-eqb _ _ (c .before .if3 .left)))
+
+pub placed-spec : {M : Type 1} → statement M
+placed-spec = tie.close (tie.spec (λ c κs. search needs) (λ c κs. search needs) returns (λ c. search needs) (λ c κs. search needs) returns-2 (λ c. search needs) (λ c. search needs) (λ c κs. search needs) (λ c. search needs) (λ c. search needs) returns-3 (λ c κs. search needs) returns-4)

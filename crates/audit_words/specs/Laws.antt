@@ -1,0 +1,2 @@
+-- Laws of an object's words, proved.
+pub mod Parts

@@ -1,0 +1,168 @@
+-- The tests of pages, newest pages, oldest objects, slots and pointer words are Sound's clauses, where names are distinct and pages are owned by regions that live.
+-- Assumes nothing.
+use mathlib.Core.Path.{_≡_, refl, sym, ap, _∙_}
+use mathlib.Core.Logic.{_≢_}
+use mathlib.Core.Bool.{Bool, true, false, not, _&&_, _||_}
+use Prim.Native.Nat.{ℕ, zero, suc, _+_, _-_, _/_, _<_}
+use native.Mathlib.Numerals.{add-one}
+use native.Mathlib.Omega.{arith}
+use lib.Dec.{eqb, ltb, eqb·suc-zero}
+use lib.ListN.{length, getD}
+use borrow.Author.Tests.{eqb-true, eqb-false, ne-eqb, not-true}
+use Rattle.lists.specs.Lists.{every, upTo}
+use Rattle.lists.specs.Laws.Tests.{both, by-test, or-other, or-right}
+use Rattle.lists.specs.Laws.All.{all-map}
+use Rattle.lists.specs.Laws.UpTo.{every-each, each-every}
+use Rattle.lists.specs.Laws.Every.{every-map, every-joined, every-same, every-below}
+use Rattle.model.specs.Model.{rule}
+use Rattle.frames.specs.Frames.{frameCount, widthAt, slotAt}
+use Rattle.kinds.specs.Kinds.{sizeOf, markAt}
+use Rattle.regions.specs.Regions.{nameAt, nameOf, parentAt, newestAt, oldestAt}
+use Rattle.regions.specs.Laws.Entries.{name-none, name-some}
+use Rattle.pages.specs.Pages.{pageCount, ownerAt, ownerOf, takenAt}
+use Rattle.objects.specs.Objects.{headersOn}
+use Rattle.outcomes.specs.Store.{Store, frames, kinds, regions, pages}
+use Rattle.outcomes.specs.History.{Object, begin, listedHeld, pointersOf, leads, homeOf, parentOf, slotsLead, wordsLead, pagesHeld}
+use Rattle.outcomes.specs.Sound.{Sound, filled, newestOwn, oldestOwn}
+use Rattle.outcomes.specs.Laws.Begin.{holderOf, headersOf, headers, objectAt, holding, begin-objects, page-of, pages-held, pages-filled, home-none, parent-is}
+use Rattle.outcomes.specs.Laws.Pointers.{Ordered, valueAt, every-slot, every-pointer, leads-owned, home-name, home-tag}
+use Rattle.audit_heap.specs.Heap.{filledTo, pageFits, pagesFit, standsAt, known, newestFits, oldestFits, frameLeads, framesLead}
+use Rattle.audit_words.specs.Words.{wordHolds, objectHolds, objectsHold, pageHolds, pagesHold}
+
+module _ (S : Store) where
+  -- a free page has no holder
+  free-none : (j : ℕ) → ownerAt (pages S) j ≡ 0 → holderOf S j ≡ 0
+  free-none j e = ap (nameOf (regions S)) e ∙ name-none (regions S)
+
+  fills : (names : length ((regions S) .names) ≡ 64) (j : ℕ) → filled S (holding S names j) ≡ eqb (filledTo (kinds S) (S .heap) j (takenAt (pages S) j)) (getD ((pages S) .taken) j 0)
+  unfolding filled filledTo headersOn
+  fills names j = refl
+
+  module _ (names : length ((regions S) .names) ≡ 64) where
+    abbrev fit : ℕ → Bool
+    fit = pageFits (kinds S) (S .heap) (regions S) (pages S)
+
+    pub pages-pass : Sound S → pagesFit (kinds S) (S .heap) (regions S) (pages S) ≡ true
+    unfolding pagesFit pageFits
+    pages-pass h = each-every fit (pageCount (pages S)) (λ j l. by-test (eqb (ownerAt (pages S) j) 0) (λ e. rw e) (λ e.
+        let held = or-other (eqb (ownerAt (pages S) j) 0) _ (every-each _ (pageCount (pages S)) (sym (pages-held S names) ∙ h .held) j l) e in
+        let full = or-other (eqb (holderOf S j) 0) _ (every-each _ (pageCount (pages S)) (sym (pages-filled S names) ∙ h .filling) j l) (not-true (eqb (holderOf S j) 0) held) in
+        rw (e, held) (sym (fills names j) ∙ full)))
+
+    module _ (e : pagesFit (kinds S) (S .heap) (regions S) (pages S) ≡ true) where
+      -- of a page that is not free
+      page-parts : (j : ℕ) → j < pageCount (pages S) → ownerAt (pages S) j ≢ 0
+          → (not (eqb (holderOf S j) 0) ≡ true) × (eqb (filledTo (kinds S) (S .heap) j (takenAt (pages S) j)) (getD ((pages S) .taken) j 0) ≡ true)
+      unfolding pagesFit pageFits
+      page-parts j l n = both (not (eqb (holderOf S j) 0)) _ (or-other (eqb (ownerAt (pages S) j) 0) _ (every-each fit (pageCount (pages S)) e j l) (ne-eqb (ownerAt (pages S) j) 0 n))
+
+      pub owned : (j : ℕ) → j < pageCount (pages S) → ownerAt (pages S) j ≢ 0 → holderOf S j ≢ 0
+      owned j l n = eqb-false (holderOf S j) 0 (not-true (eqb (holderOf S j) 0) (page-parts j l n .0))
+
+      pub held : pagesHeld (begin S) ≡ true
+      held = pages-held S names ∙ each-every _ (pageCount (pages S)) (λ j l. by-test (eqb (ownerAt (pages S) j) 0) (λ z. rw z) (λ z. or-right (eqb (ownerAt (pages S) j) 0) _ (page-parts j l (eqb-false (ownerAt (pages S) j) 0 z) .0)))
+
+      pub filling : every (filled S) (listedHeld S) ≡ true
+      filling = pages-filled S names ∙ each-every _ (pageCount (pages S)) (λ j l. by-test (eqb (holderOf S j) 0) (λ z. rw z) (λ z.
+          or-right (eqb (holderOf S j) 0) _ (fills names j ∙ page-parts j l (λ o. eqb-false (holderOf S j) 0 z (free-none j o)) .1)))
+
+  pub newest-same : (i : ℕ) → newestOwn S i ≡ newestFits (regions S) (pages S) i
+  unfolding newestOwn newestFits
+  newest-same i = go (newestAt (regions S) i)
+    where
+      go : (n : ℕ) → elim n [ zero ↦ true | suc j ↦ ltb j (pageCount (pages S)) && eqb (ownerAt (pages S) j) (i + 1) ]
+          ≡ (eqb n 0 || (ltb (n - 1) (pageCount (pages S)) && eqb (ownerAt (pages S) (n - 1)) (i + 1)))
+      go zero = refl
+      go (suc j) = let e : suc j - 1 ≡ j = omega arith in rw (eqb·suc-zero j, e)
+
+  module _ (h : Ordered S) where
+    stands-same : (q : ℕ) → leads (begin S) (suc q) ≡ standsAt (kinds S) (S .heap) (pages S) q
+    unfolding standsAt
+    stands-same q = leads-owned S h q
+
+    -- the same after a test that the pointer is not null, with more tests on it
+    pointer-same : (v : ℕ) (a b : Bool) → (leads (begin S) v ≡ true → a ≡ b) → (eqb v 0 || (leads (begin S) v && a)) ≡ (eqb v 0 || (standsAt (kinds S) (S .heap) (pages S) (v - 1) && b))
+    pointer-same zero a b k = refl
+    pointer-same (suc q) a b k =
+        let e : suc q - 1 ≡ q = omega arith in
+        rw (e, eqb·suc-zero q, ← stands-same q) (go (leads (begin S) (suc q)) k)
+      where
+        go : (t : Bool) → (t ≡ true → a ≡ b) → (t && a) ≡ (t && b)
+        go true k = k refl
+        go false k = refl
+
+    pub known-same : (v : ℕ) → (eqb v 0 || leads (begin S) v) ≡ known (kinds S) (S .heap) (pages S) v
+    unfolding known
+    known-same zero = refl
+    known-same (suc q) = let e : suc q - 1 ≡ q = omega arith in rw (e, eqb·suc-zero q) (stands-same q)
+
+    led : (v : ℕ) → leads (begin S) v ≡ true → (eqb v 0 || leads (begin S) v) ≡ true
+    led v e = or-right (eqb v 0) (leads (begin S) v) e
+
+    pub oldest-same : (i : ℕ) → nameAt (regions S) i ≢ 0 → oldestOwn S i ≡ oldestFits (kinds S) (S .heap) (regions S) (pages S) i
+    unfolding oldestOwn oldestFits
+    oldest-same i n =
+        let v = oldestAt (regions S) i in
+        ap (λ b. eqb v 0 || b) (go v (leads (begin S) v) refl)
+        ∙ pointer-same v (eqb (homeOf (begin S) v) (nameAt (regions S) i)) (eqb (ownerOf (pages S) v) (i + 1)) (λ e. home-tag S h v i (led v e) n ∙ ap (eqb (ownerOf (pages S) v)) (sym (add-one i)))
+      where
+        go : (v : ℕ) (b : Bool) → leads (begin S) v ≡ b → eqb (homeOf (begin S) v) (nameAt (regions S) i) ≡ (b && eqb (homeOf (begin S) v) (nameAt (regions S) i))
+        go v true e = refl
+        go v false e = rw (home-none S v e) (ne-eqb 0 (nameAt (regions S) i) (λ z. n (sym z)))
+
+    pub slots-same : slotsLead (begin S) S ≡ framesLead (kinds S) (S .heap) (pages S) (frames S)
+    unfolding slotsLead framesLead frameLeads
+    slots-same =
+        every-slot S (λ v. eqb v 0 || leads (begin S) v)
+        ∙ every-below _ _ (frameCount (frames S)) (λ i l. every-below _ _ (widthAt (frames S) i) (λ s m. known-same (slotAt (frames S) i s)))
+
+    -- ---- words
+
+    -- a pointer word's test, in an object of the region named own, right below the one named above
+    abbrev fine : ℕ → ℕ → ℕ → ℕ → Bool
+    fine own above m x = eqb x 0 || (leads (begin S) x && rule m (homeOf (begin S) x) own above)
+
+    word-same : (own above m x : ℕ) → (eqb m 0 || fine own above m x) ≡ wordHolds (kinds S) (S .heap) (regions S) (pages S) own above m x
+    unfolding wordHolds
+    word-same own above m x =
+        ap (λ b. eqb m 0 || b)
+        (pointer-same x (rule m (homeOf (begin S) x) own above) (rule m (nameOf (regions S) (ownerOf (pages S) x)) own above) (λ e. ap (λ t. rule m t own above) (home-name S h x (led x e))))
+
+    object-same : (q : ℕ) → let own = holderOf S (q / 64) in let above = parentOf (begin S) own in
+        every (λ w. fine own above (w .mark) (w .value)) (pointersOf (begin S) S (objectAt S q)) ≡ objectHolds (kinds S) (S .heap) (regions S) (pages S) own above q
+    unfolding objectHolds
+    object-same q =
+        let own = holderOf S (q / 64) in
+        let above = parentOf (begin S) own in
+        let k = getD (S .heap) q 0 in
+        every-pointer S (objectAt S q) (fine own above)
+        ∙ every-below _ _ (sizeOf (kinds S) k) (λ w l. word-same own above (markAt (kinds S) k w) (valueAt S q w))
+
+    -- the region above the holder of a page
+    above-same : (j : ℕ) → holderOf S j ≢ 0 → parentOf (begin S) (holderOf S j) ≡ nameOf (regions S) (parentAt (regions S) (ownerAt (pages S) j - 1))
+    above-same j n =
+        let t = ownerAt (pages S) j in
+        let e = name-some (regions S) t (λ z. n (free-none j z)) in
+        rw e (parent-is S (h .names) (h .few) (t - 1) (λ z. n (e ∙ z)))
+
+    abbrev test : Object → Bool
+    test o = every (λ w. fine (o .home) (parentOf (begin S) (o .home)) (w .mark) (w .value)) (pointersOf (begin S) S o)
+
+    page-same : (j : ℕ) → j < pageCount (pages S) → every (λ q. test (objectAt S q)) (headersOf S j) ≡ pageHolds (kinds S) (S .heap) (regions S) (pages S) j
+    unfolding pageHolds objectsHold
+    page-same j l = by-test (eqb (ownerAt (pages S) j) 0)
+        (λ e. rw (e, free-none j (eqb-true (ownerAt (pages S) j) 0 e)))
+        (λ e.
+        let n = h .owned j l (eqb-false (ownerAt (pages S) j) 0 e) in
+        let z = ne-eqb (holderOf S j) 0 n in
+        let hs = headersOn (kinds S) (S .heap) (pages S) j in
+        rw (e, z, ← above-same j n)
+        (every-same (λ q. test (objectAt S q)) (objectHolds (kinds S) (S .heap) (regions S) (pages S) (holderOf S j) (parentOf (begin S) (holderOf S j))) hs (all-map (λ q i. rw (← i) (object-same q)) hs (rw z at (page-of S j)))))
+
+    pub words-same : wordsLead (begin S) S ≡ pagesHold (kinds S) (S .heap) (regions S) (pages S)
+    unfolding wordsLead pagesHold
+    words-same =
+        ap (every test) (begin-objects S)
+        ∙ every-map test (objectAt S) (headers S)
+        ∙ every-joined (λ q. test (objectAt S q)) (headersOf S) (upTo (pageCount (pages S)))
+        ∙ every-below (λ j. every (λ q. test (objectAt S q)) (headersOf S j)) (pageHolds (kinds S) (S .heap) (regions S) (pages S)) (pageCount (pages S)) page-same

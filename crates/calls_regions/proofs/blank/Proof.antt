@@ -1,0 +1,11 @@
+use borrow.Author.Needs.{needs}
+use Rattle.outcomes.specs.Outcome.{blank}
+use Rattle.calls_regions.proofs.blank.Statement.{statement}
+use Rattle.calls_regions.proofs.blank.Tie as tie
+
+returns : tie.Need-returns
+unfolding blank
+returns c = rw (c .before .put64 .ensures, c .put64-byte .ensures)
+
+pub blank-spec : {M : Type 1} → statement M
+blank-spec = tie.close (tie.spec (λ c κs. search needs) (λ c κs. search needs) returns)

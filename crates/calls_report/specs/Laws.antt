@@ -1,0 +1,2 @@
+-- Laws of the pointers counted, proved.
+pub mod Into

@@ -1,0 +1,50 @@
+-- The tests of each call, as the functions of `checks` run them.
+-- Assumes nothing.
+use mathlib.Core.Path.{_≡_, refl, ap, _∙_}
+use mathlib.Core.Bool.{not, or-comm}
+use mathlib.Core.List.{List, [], _∷_}
+use Prim.Native.Nat.{ℕ, _≤_, _<_}
+use lib.Dec.{ltb}
+use lib.ListN.{length}
+use borrow.Author.Tests.{le-ltb, lt-ltb}
+use Rattle.model.specs.Model.{first, copy, fetch, clear, same, about}
+use Rattle.model.specs.Calls.{reason, _⇒_}
+use Rattle.outcomes.specs.Store.{Store, frames, pages}
+use Rattle.outcomes.specs.Outcome.{refusal, checks, dead, lacks, lacksBeneath, badLength, oneFrame}
+use Rattle.checks.specs.Checks.{orElse, topTests, beneathTests}
+use Rattle.checks.specs.Laws.Tests.{one-slot, two-slots, slot-beneath, or-zero}
+
+module _ (S : Store) where
+  abbrev pub tests : ℕ → ℕ → ℕ
+  tests s t = reason (topTests (pages S) (length (S .heap)) (frames S) s t)
+
+  pub first-tests : (s r : ℕ) → refusal S (first s r) ≡ orElse (tests s s) (reason (dead S r ⇒ 2 ∷ []))
+  unfolding refusal checks
+  first-tests s r = one-slot S (dead S r ⇒ 2 ∷ []) s
+
+  pub copy-tests : (s t : ℕ) → refusal S (copy s t) ≡ tests s t
+  unfolding refusal checks
+  copy-tests s t = two-slots S [] s t ∙ or-zero (tests s t)
+
+  pub fetch-tests : (b s : ℕ) → refusal S (fetch b s) ≡ reason (beneathTests (pages S) (length (S .heap)) (frames S) s b)
+  unfolding refusal checks
+  fetch-tests b s = ap (λ x. reason (badLength S ⇒ 21 ∷ oneFrame S ⇒ 6 ∷ x ⇒ 9 ∷ [])) (or-comm (lacksBeneath S b) (lacks S s)) ∙ slot-beneath S [] s b ∙ or-zero (reason (beneathTests (pages S) (length (S .heap)) (frames S) s b))
+
+  pub clear-tests : (s : ℕ) → refusal S (clear s) ≡ tests s s
+  unfolding refusal checks
+  clear-tests s = one-slot S [] s ∙ or-zero (tests s s)
+
+  pub same-tests : (s t : ℕ) → refusal S (same s t) ≡ tests s t
+  unfolding refusal checks
+  same-tests s t = two-slots S [] s t ∙ or-zero (tests s t)
+
+  pub about-tests : (s : ℕ) → refusal S (about s) ≡ tests s s
+  unfolding refusal checks
+  about-tests s = one-slot S [] s ∙ or-zero (tests s s)
+
+-- the test of a live region, as the entry found decides it
+pub refuses : (i j : ℕ) → i ≡ j → 64 ≤ i → reason (not (ltb j 64) ⇒ 2 ∷ []) ≡ 2
+refuses i j e h = rw (← e, le-ltb i 64 h)
+
+pub accepts : (i j : ℕ) → i ≡ j → i < 64 → reason (not (ltb j 64) ⇒ 2 ∷ []) ≡ 0
+accepts i j e h = rw (← e, lt-ltb i 64 h)

@@ -1,0 +1,13 @@
+use mathlib.Core.Path.{_≡_, refl, sym, ap, _∙_}
+use borrow.Author.Needs.{needs}
+use Rattle.outcomes.specs.Outcome.{Accepted, refusal, checks}
+use Rattle.outcomes.specs.Laws.Steps.{by-refusal, by-effect}
+use Rattle.calls_slots.proofs.totals.Statement.{statement}
+use Rattle.calls_slots.proofs.totals.Tie as tie
+
+returns : tie.Need-returns
+unfolding Accepted refusal checks
+returns c heap = by-effect _ _ _ _ refl (c .gives .ensures ∙ rw (c .before .live-count .ensures, c .before .before .pages-of .ensures), refl)
+
+pub totals-spec : {M : Type 1} → statement M
+totals-spec = tie.close (tie.spec (λ c κs. search needs) (λ c κs. search needs) (λ c κs. search needs) returns)

@@ -1,0 +1,113 @@
+// The calls that read or write slots of the top frame, and totals.
+use state::Done;
+use state::Reply;
+use state::State;
+ghost use mathlib.Core.List.{List, []};
+ghost use Prim.Native.Nat.{ℕ};
+ghost use Rattle.model.specs.Model.{first, copy, fetch, clear, same, about, totals};
+ghost use Rattle.outcomes.specs.Outcome.{Outcome, answerOf, store};
+
+// Document 01's call 9: the slot gets the region's oldest object.
+pub fn first(s: State, heap: &[u32], slot: u32, region: u32) -> Done
+    ensures { λ r. ⌜ Outcome (first slot region) (store s (now (heap .entry))) (answerOf (r .reply) []) (store (r .state) (now (heap .entry))) ⌝ }
+{
+    let p = s.pages;
+    let f = s.frames;
+    let e = s.regions;
+    let g = checks::top_refusal(p, heap.len(), f, slot, slot);
+    if g != 0 {
+        return checks::turned(s, g);
+    }
+    let i = regions::entry_of(e, region);
+    if 64 <= i {
+        return checks::turned(s, 2);
+    }
+    checks::filled(s, slot, regions::oldest_at(e, i))
+}
+
+// Document 01's call 10.
+pub fn copy(s: State, heap: &[u32], from: u32, to: u32) -> Done
+    ensures { λ r. ⌜ Outcome (copy from to) (store s (now (heap .entry))) (answerOf (r .reply) []) (store (r .state) (now (heap .entry))) ⌝ }
+{
+    let p = s.pages;
+    let f = s.frames;
+    let g = checks::top_refusal(p, heap.len(), f, from, to);
+    if g != 0 {
+        return checks::turned(s, g);
+    }
+    checks::filled(s, to, checks::top_slot(f, from))
+}
+
+// Document 01's call 11: `from` is a slot of the frame beneath.
+pub fn fetch(s: State, heap: &[u32], from: u32, to: u32) -> Done
+    ensures { λ r. ⌜ Outcome (fetch from to) (store s (now (heap .entry))) (answerOf (r .reply) []) (store (r .state) (now (heap .entry))) ⌝ }
+{
+    let p = s.pages;
+    let f = s.frames;
+    let g = checks::beneath_refusal(p, heap.len(), f, to, from);
+    if g != 0 {
+        return checks::turned(s, g);
+    }
+    checks::filled(s, to, checks::beneath_slot(f, from))
+}
+
+// Document 01's call 12.
+pub fn clear(s: State, heap: &[u32], slot: u32) -> Done
+    ensures { λ r. ⌜ Outcome (clear slot) (store s (now (heap .entry))) (answerOf (r .reply) []) (store (r .state) (now (heap .entry))) ⌝ }
+{
+    let p = s.pages;
+    let f = s.frames;
+    let g = checks::top_refusal(p, heap.len(), f, slot, slot);
+    if g != 0 {
+        return checks::turned(s, g);
+    }
+    checks::filled(s, slot, 0)
+}
+
+// Document 01's call 18.
+pub fn same(s: State, heap: &[u32], a: u32, b: u32) -> Reply
+    ensures { λ r. ⌜ Outcome (same a b) (store s (now (heap .entry))) (answerOf r []) (store s (now (heap .entry))) ⌝ }
+{
+    let p = s.pages;
+    let f = s.frames;
+    let g = checks::top_refusal(p, heap.len(), f, a, b);
+    if g != 0 {
+        return checks::refused(g);
+    }
+    let x = checks::top_slot(f, a);
+    let y = checks::top_slot(f, b);
+    if x == y {
+        return checks::gives(1, 0, 0, 0);
+    }
+    checks::gives(0, 0, 0, 0)
+}
+
+// Document 01's call 19.
+pub fn about(s: State, heap: &[u32], slot: u32) -> Reply
+    ensures { λ r. ⌜ Outcome (about slot) (store s (now (heap .entry))) (answerOf r []) (store s (now (heap .entry))) ⌝ }
+{
+    let p = s.pages;
+    let f = s.frames;
+    let g = checks::top_refusal(p, heap.len(), f, slot, slot);
+    if g != 0 {
+        return checks::refused(g);
+    }
+    let v = checks::top_slot(f, slot);
+    let e = s.regions;
+    let n = regions::name_of(e, checks::tag_of(p, v));
+    checks::gives(n, objects::kind_of(heap, v), 0, 0)
+}
+
+// Document 01's call 21: no heap is read, so it says the same whatever the heap.
+pub fn totals(s: State) -> Reply
+    ensures { λ r. ⌜ ((heap : List ℕ) → Outcome totals (store s heap) (answerOf r []) (store s heap)) ⌝ }
+{
+    let p = s.pages;
+    let e = s.regions;
+    checks::gives(
+        pages::pages_of(p, 0),
+        regions::live_count(e),
+        s.frames.standing,
+        s.frames.counted,
+    )
+}

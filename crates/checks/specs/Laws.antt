@@ -1,0 +1,2 @@
+-- Laws that join the shared tests to the calls' own, proved.
+pub mod Tests

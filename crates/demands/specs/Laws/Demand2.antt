@@ -1,0 +1,32 @@
+-- Demand 2: what make leaves stands for the fresh model, and any run follows it.
+-- Assumes nothing.
+use mathlib.Core.Path.{_≡_}
+use mathlib.Core.Bool.{true}
+use mathlib.Core.List.{List, []}
+use Prim.Native.Nat.{ℕ, _/_}
+use lib.ListN.{length}
+use Rattle.model.specs.Model.{Answer}
+use Rattle.model.specs.Calls.{makes, fresh}
+use Rattle.model.specs.Laws.Next.{fresh-valid}
+use Rattle.model.specs.Laws.Paged.{fresh-paged}
+use Rattle.outcomes.specs.Store.{Store}
+use Rattle.outcomes.specs.Outcome.{MakeOutcome}
+use Rattle.refinement.specs.Laws.Fresh.{make-pages, make-answers, make-represents, make-shaped}
+use Rattle.refinement.specs.Laws.Follows.{Good, run-follows}
+use Rattle.demands.specs.Demands.{Demand2}
+
+-- what an accepted make leaves
+unfoldable pub made-good : (heap : List ℕ) (a : Answer) (S : Store) → makes (length heap) ≡ true → MakeOutcome heap a S → Good (length heap / 64) (fresh (length heap / 64)) S
+made-good heap a S ok o = record {
+  places = [];
+  onPage = λ j. [];
+  few = make-pages (length heap) ok .1;
+  valid = fresh-valid (length heap / 64);
+  paged = fresh-paged (length heap / 64);
+  shaped = make-shaped heap a S ok o;
+  represents = make-represents heap a S ok o;
+}
+
+pub demand2 : Demand2
+unfolding Demand2
+demand2 heap a S ok o es T r = (make-answers heap a S ok o, run-follows (made-good heap a S ok o) r .0)

@@ -1,0 +1,3 @@
+pub mod Told
+pub mod Demands
+pub mod Laws

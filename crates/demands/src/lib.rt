@@ -1,0 +1,1 @@
+// The three demands as statements, and their proofs, in specs/. No code.

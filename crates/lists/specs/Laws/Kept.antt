@@ -1,0 +1,171 @@
+-- Laws of lists that are mapped, kept and joined one after the other, and of sums over them.
+-- Assumes nothing.
+use mathlib.Core.Path.{_≡_, refl, sym, ap, ap₂, _∙_}
+use mathlib.Core.Logic.{_≢_}
+use mathlib.Core.Bool.{Bool, true, false, _||_, false≢true}
+use mathlib.Core.List.{List, [], _∷_, _++_, map}
+use Prim.Native.Nat.{ℕ, zero, suc, _+_, _≤_, _<_, min}
+use native.Mathlib.Omega.{arith}
+use lib.Dec.{eqb, leb}
+use lib.ListN.{length, getD}
+use borrow.Author.Tests.{leb-true, leb-false, eqb-true, eq-eqb, ne-eqb}
+use Rattle.lists.specs.Lists.{pick, any, keep, find, sum, All, All₂, joined, from, upTo, among}
+use Rattle.lists.specs.Laws.Tests.{by-test, or-right}
+use Rattle.lists.specs.Laws.All.{all-map, all-append}
+use Rattle.lists.specs.Laws.Finds.{all-keep, map-append}
+use Rattle.lists.specs.Laws.Sums.{sum-pick, length-keep, count-most}
+use Rattle.lists.specs.Laws.UpTo.{all-upTo, upTo-all, length-upTo, sum-suc, sum-change}
+
+module _ {A B : Type 0} where
+  pub map-same : (f g : A → B) (l : List A) → All (λ x. f x ≡ g x) l → map f l ≡ map g l
+  map-same f g [] h = refl
+  map-same f g (x ∷ xs) h = ap₂ _∷_ (h .0) (map-same f g xs (h .1))
+
+  pub joined-same : (f g : A → List B) (l : List A) → All (λ x. f x ≡ g x) l → joined f l ≡ joined g l
+  joined-same f g [] h = refl
+  joined-same f g (x ∷ xs) h = ap₂ _++_ (h .0) (joined-same f g xs (h .1))
+
+  pub all-joined : (P : B → Type 0) (f : A → List B) (l : List A) → All (λ x. All P (f x)) l → All P (joined f l)
+  all-joined P f [] h = tt
+  all-joined P f (x ∷ xs) h = all-append P (f x) (joined f xs) (h .0) (all-joined P f xs (h .1))
+
+  pub map-all : (P : B → Type 0) (f : A → B) (l : List A) → All P (map f l) → All (λ x. P (f x)) l
+  map-all P f [] h = tt
+  map-all P f (x ∷ xs) h = (h .0, map-all P f xs (h .1))
+
+  pub find-map : (f : B → Bool) (g : A → B) (d : A) (l : List A) → find f (g d) (map g l) ≡ g (find (λ x. f (g x)) d l)
+  find-map f g d [] = refl
+  find-map f g d (x ∷ xs) = go (f (g x)) (find-map f g d xs)
+    where
+      go : (b : Bool) → find f (g d) (map g xs) ≡ g (find (λ x. f (g x)) d xs) → pick b (g x) (find f (g d) (map g xs)) ≡ g (pick b x (find (λ x. f (g x)) d xs))
+      go true e = refl
+      go false e = e
+
+  pub all₂-each : (P : A → B → Type 0) (xs : List A) (ys : List B) (d : A) (e : B) → ((i : ℕ) → i < length xs → i < length ys → P (getD xs i d) (getD ys i e)) → All₂ P xs ys
+  all₂-each P [] ys d e h = tt
+  all₂-each P (x ∷ xs) [] d e h = tt
+  all₂-each P (x ∷ xs) (y ∷ ys) d e h = (h 0 (omega arith) (omega arith), all₂-each P xs ys d e (λ i k l. h (suc i) (omega arith) (omega arith)))
+
+  -- what is found among changed elements is the change of what is found; any default will do where one passes
+  pub find-changed : (f : B → Bool) (g : A → B) (d : B) (e : A) (l : List A) → any (λ x. f (g x)) l ≡ true → find f d (map g l) ≡ g (find (λ x. f (g x)) e l)
+  find-changed f g d e [] h = absurd (false≢true h)
+  find-changed f g d e (x ∷ xs) h = go (f (g x)) h (find-changed f g d e xs)
+    where
+      go : (b : Bool) → (b || any (λ x. f (g x)) xs) ≡ true → (any (λ x. f (g x)) xs ≡ true → find f d (map g xs) ≡ g (find (λ x. f (g x)) e xs))
+          → pick b (g x) (find f d (map g xs)) ≡ g (pick b x (find (λ x. f (g x)) e xs))
+      go true h ih = refl
+      go false h ih = ih h
+
+module _ {A B C : Type 0} where
+  pub map-map : (f : B → C) (g : A → B) (l : List A) → map f (map g l) ≡ map (λ x. f (g x)) l
+  map-map f g [] = refl
+  map-map f g (x ∷ xs) = ap (λ r. f (g x) ∷ r) (map-map f g xs)
+
+  pub map-joined : (f : B → C) (g : A → List B) (l : List A) → map f (joined g l) ≡ joined (λ x. map f (g x)) l
+  map-joined f g [] = refl
+  map-joined f g (x ∷ xs) = map-append f (g x) (joined g xs) ∙ ap (λ r. map f (g x) ++ r) (map-joined f g xs)
+
+  pub joined-kept : (f : B → List C) (g : B → Bool) (h : A → B) (l : List A) → joined f (keep g (map h l)) ≡ joined (λ x. pick (g (h x)) (f (h x)) []) l
+  joined-kept f g h [] = refl
+  joined-kept f g h (x ∷ xs) = go (g (h x)) (joined-kept f g h xs)
+    where
+      go : (b : Bool) → joined f (keep g (map h xs)) ≡ joined (λ x. pick (g (h x)) (f (h x)) []) xs
+          → joined f (pick b (h x ∷ keep g (map h xs)) (keep g (map h xs))) ≡ pick b (f (h x)) [] ++ joined (λ x. pick (g (h x)) (f (h x)) []) xs
+      go true e = ap (λ r. f (h x) ++ r) e
+      go false e = e
+
+pub sum-later : (f : ℕ → ℕ) (k n : ℕ) → sum f (from (suc k) n) ≡ sum (λ i. f (suc i)) (from k n)
+sum-later f k zero = refl
+sum-later f k (suc n) = ap (λ x. f (suc k) + x) (sum-later f (suc k) n)
+
+pub map-later : {A : Type 0} (f : ℕ → A) (k n : ℕ) → map f (from (suc k) n) ≡ map (λ i. f (suc i)) (from k n)
+map-later f k zero = refl
+map-later f k (suc n) = ap (λ l. f (suc k) ∷ l) (map-later f (suc k) n)
+
+-- each number of a list stands in it
+pub among-self : (l : List ℕ) → All (λ n. among n l ≡ true) l
+among-self [] = tt
+among-self (x ∷ xs) = (rw (eq-eqb x x refl), all-map (λ n e. or-right (eqb x n) (among n xs) e) xs (among-self xs))
+
+module _ {A : Type 0} where
+  pub all-each : (P : A → Type 0) → ((x : A) → P x) → (l : List A) → All P l
+  all-each P h [] = tt
+  all-each P h (x ∷ xs) = (h x, all-each P h xs)
+
+  pub all-places : (P : A → Type 0) (l : List A) (d : A) → ((i : ℕ) → i < length l → P (getD l i d)) → All P l
+  all-places P [] d h = tt
+  all-places P (x ∷ xs) d h = (h 0 (omega arith), all-places P xs d (λ i k. h (suc i) (omega arith)))
+
+  -- an element that passes stands somewhere
+  pub any-index : (f : A → Bool) (l : List A) (d : A) → any f l ≡ true → (i : ℕ) × (i < length l) × (f (getD l i d) ≡ true)
+  any-index f [] d e = absurd (false≢true e)
+  any-index f (x ∷ xs) d e = go (f x) refl e (any-index f xs d)
+    where
+      go : (b : Bool) → f x ≡ b → (b || any f xs) ≡ true → (any f xs ≡ true → (i : ℕ) × (i < length xs) × (f (getD xs i d) ≡ true)) → (i : ℕ) × (i < suc (length xs)) × (f (getD (x ∷ xs) i d) ≡ true)
+      go true q e ih = (0, omega arith, q)
+      go false q e ih = let t = ih e in (suc (t .0), omega (arith, t .1), t .2)
+
+  keep-all : (P : A → Type 0) (g : A → Bool) (l : List A) → All P (keep g l) → All (λ x. g x ≡ true → P x) l
+  keep-all P g [] h = tt
+  keep-all P g (x ∷ xs) h = go (g x) refl h (keep-all P g xs)
+    where
+      go : (b : Bool) → g x ≡ b → All P (pick b (x ∷ keep g xs) (keep g xs)) → (All P (keep g xs) → All (λ x. g x ≡ true → P x) xs) → (g x ≡ true → P x) × All (λ x. g x ≡ true → P x) xs
+      go true q h ih = (λ e. h .0, ih (h .1))
+      go false q h ih = (λ e. absurd (false≢true (sym q ∙ e)), ih h)
+
+-- the numbers below n that pass
+pub kept-most : (g : ℕ → Bool) (n : ℕ) → length (keep g (upTo n)) ≤ n
+kept-most g n = omega (arith, length-keep g (upTo n), count-most g (upTo n), length-upTo n)
+
+module _ (P : ℕ → Type 0) (g : ℕ → Bool) (n : ℕ) where
+  pub kept-each : All P (keep g (upTo n)) → (i : ℕ) → i < n → g i ≡ true → P i
+  kept-each h = upTo-all (λ i. g i ≡ true → P i) n (keep-all P g (upTo n) h)
+
+  pub each-kept : ((i : ℕ) → i < n → g i ≡ true → P i) → All P (keep g (upTo n))
+  each-kept h = all-map (λ i k. k .0 (k .1)) (keep g (upTo n)) (all-keep (λ i. g i ≡ true → P i) g (upTo n) (all-upTo (λ i. g i ≡ true → P i) n h))
+
+-- ---- sums
+
+-- only one number counts
+pub sum-single : (f : ℕ → ℕ) (n k : ℕ) → k < n → ((i : ℕ) → i ≢ k → f i ≡ 0) → sum f (upTo n) ≡ f k
+sum-single f n k h z = omega (arith, sum-change f (λ i. 0) n k h (λ i l d. z i d), sum-pick false (λ (i : ℕ). 0) (upTo n))
+
+-- f of one number below n, and of two, is part of the sum
+without : (ℕ → ℕ) → ℕ → ℕ → ℕ
+without f k i = pick (eqb i k) 0 (f i)
+
+sum-without : (f : ℕ → ℕ) (n k : ℕ) → k < n → sum f (upTo n) ≡ sum (without f k) (upTo n) + f k
+unfolding without
+sum-without f n k h =
+    let e : without f k k ≡ 0 = rw (eq-eqb k k refl) in
+    omega (arith, e, sum-change f (without f k) n k h (λ i l d. rw (ne-eqb i k d)))
+
+pub sum-one : (f : ℕ → ℕ) (n i : ℕ) → i < n → f i ≤ sum f (upTo n)
+sum-one f n i h = omega (arith, sum-without f n i h)
+
+pub sum-two : (f : ℕ → ℕ) (n i k : ℕ) → i < n → k < n → i ≢ k → f i + f k ≤ sum f (upTo n)
+unfolding without
+sum-two f n i k h l d =
+    let e : without f k i ≡ f i = rw (ne-eqb i k d) in
+    omega (arith, e, sum-without f n k l, sum-one (without f k) n i h)
+
+-- the numbers below m, and those from m on
+pub sum-above : (f : ℕ → ℕ) (m n : ℕ) → sum f (upTo n) ≡ sum f (upTo (min m n)) + sum (λ i. pick (leb m i) (f i) 0) (upTo n)
+sum-above f m zero = let e : min m 0 ≡ 0 = omega arith in rw e
+sum-above f m (suc n) = by-test (leb m n)
+    (λ t. let e : min m (suc n) ≡ min m n = omega (arith, leb-true m n t) in rw (sum-suc f n, sum-suc (λ i. pick (leb m i) (f i) 0) n, t, e) (omega (arith, sum-above f m n)))
+    (λ t.
+    let e : min m (suc n) ≡ suc n = omega (arith, leb-false m n t) in
+    let d : min m n ≡ n = omega (arith, leb-false m n t) in
+    rw (e, sum-suc f n, sum-suc (λ i. pick (leb m i) (f i) 0) n, t) (omega (arith, rw d at (sum-above f m n))))
+
+-- f is at most g below n, and at k there are c left over
+sum-under : (f g : ℕ → ℕ) (n : ℕ) → ((i : ℕ) → i < n → f i ≤ g i) → sum f (upTo n) ≤ sum g (upTo n)
+sum-under f g zero h = omega arith
+sum-under f g (suc n) h = omega (arith, sum-suc f n, sum-suc g n, h n (omega arith), sum-under f g n (λ i l. h i (omega arith)))
+
+pub sum-slack : (f g : ℕ → ℕ) (n k c : ℕ) → ((i : ℕ) → i < n → f i ≤ g i) → k < n → f k + c ≤ g k → sum f (upTo n) + c ≤ sum g (upTo n)
+sum-slack f g n k c h l e =
+    let more : ℕ → ℕ = λ i. pick (eqb i k) (f i + c) (f i) in
+    let z : more k ≡ f k + c = rw (eq-eqb k k refl) in
+    omega (arith, z, sum-change more f n k l (λ i a d. rw (ne-eqb i k d)), sum-under more g n (λ i a. by-test (eqb i k) (λ t. rw (t, eqb-true i k t) e) (λ t. rw t (h i a))))

@@ -1,0 +1,68 @@
+-- Memory that represents a valid model passes the audit.
+-- Assumes nothing.
+use mathlib.Core.Path.{_≡_, ap, _∙_}
+use mathlib.Core.Bool.{Bool, true}
+use mathlib.Core.List.{List}
+use Prim.Native.Nat.{ℕ, _+_, _-_, _*_}
+use native.Mathlib.Omega.{arith}
+use lib.Dec.{eqb}
+use lib.ListN.{length}
+use borrow.Author.Tests.{le-leb, eq-eqb}
+use Rattle.lists.specs.Laws.All.{all-change}
+use Rattle.lists.specs.Laws.Finds.{true-every}
+use Rattle.model.specs.Model.{Model, livesIn}
+use Rattle.model.specs.Valid.{Valid}
+use Rattle.regions.specs.Regions.{nameAt}
+use Rattle.outcomes.specs.Store.{Store, frames, regions, pages}
+use Rattle.outcomes.specs.History.{begin, entries, listedRegions, storedCount, uncountedInto, outside, countsExact}
+use Rattle.outcomes.specs.Sound.{Sound}
+use Rattle.outcomes.specs.Shape.{Shaped}
+use Rattle.refinement.specs.Represents.{Represents}
+use Rattle.refinement.specs.Laws.Tags.{entry-name}
+use Rattle.refinement.specs.Laws.RebuildStack.{is-within}
+use Rattle.refinement.specs.Laws.AuditedObjects.{Agrees, agrees}
+use Rattle.refinement.specs.Laws.AuditedCounts.{outside-is, uncounted-is}
+use Rattle.refinement.specs.Laws.AuditedRegions.{entries-all, entries-every, distinct, one, deep, past, stands, own-newest, own-oldest}
+use Rattle.refinement.specs.Laws.AuditedPointers.{slots-lead, words-lead}
+use Rattle.refinement.specs.Laws.AuditedHeld.{declared, sizes, marked, widths, held, filling}
+
+module _ {L : Model} {sp : List ℕ} {ids : ℕ → List ℕ} (S : Store) (v : Valid L) (h : Represents L sp ids S) where
+  a : Agrees L sp ids S
+  a = agrees v h
+
+  -- the stored count of a live region is what the audit asks for
+  exact : (r : ℕ) → livesIn L r ≡ true → eqb (storedCount S r + uncountedInto (begin S) S r) (outside (begin S) S r) ≡ true
+  unfolding storedCount
+  exact r l = eq-eqb (storedCount S r + uncountedInto (begin S) S r) (outside (begin S) S r) (omega (arith, h .counts r l, outside-is S a r, uncounted-is S a r))
+
+  counts : countsExact (begin S) S ≡ true
+  unfolding countsExact begin listedRegions
+  counts =
+      let test : ℕ → Bool = λ n. eqb (storedCount S n + uncountedInto (begin S) S n) (outside (begin S) S n) in
+      true-every _ ((begin S) .regions) (all-change (λ i. test (nameAt (regions S) i) ≡ true) (λ g. test (g .name) ≡ true) _ (λ i e. e) (entries S)
+      (entries-all S a (λ i. test (nameAt (regions S) i) ≡ true) (λ r l. ap test (entry-name (h .onRegions) r l) ∙ exact r l)))
+
+  pub audited : Shaped S → Sound S
+  audited sh = let names = sh .inRegions .names .0 in record {
+    counts = counts;
+    slots = slots-lead S a;
+    words = words-lead S a;
+    held = held S a names;
+    made = is-within 1 256 ((pages S) .made) (h .onPages .some) (h .onPages .most);
+    declared = declared S a;
+    sizes = sizes S a;
+    marks = marked S a;
+    standing = le-leb ((frames S) .standing) 32 (omega (arith, h .onFrames .standing, v .frames .many));
+    widths = widths S a;
+    levels = entries-every S a _ (deep S a);
+    given = le-leb ((regions S) .given) 1000000 (omega (arith, h .onRegions .given, v .names .last));
+    counted = le-leb ((frames S) .counted) ((frames S) .standing - 1) (omega (arith, h .onFrames .standing, h .onFrames .counted, v .frames .mark));
+    heapLength = eq-eqb (length (S .heap)) (64 * (pages S) .made) (h .onPages .whole);
+    distinct = entries-every S a _ (distinct S a);
+    past = entries-every S a _ (past S a);
+    one = one S a;
+    parents = entries-every S a _ (stands S a);
+    filling = filling S a names;
+    newest = entries-every S a _ (own-newest S a);
+    oldest = entries-every S a _ (own-oldest S a);
+  }

@@ -1,0 +1,119 @@
+-- A model that a memory represents has lost no page, and its regions' objects lie in their pages.
+-- Assumes nothing.
+use mathlib.Core.Path.{_≡_, refl, sym, ap, _∙_, fun-ext}
+use mathlib.Core.Logic.{_≢_}
+use mathlib.Core.Bool.{Bool, true, false}
+use mathlib.Core.List.{List, [], _∷_}
+use Prim.Native.Nat.{ℕ, zero, suc, _+_, _*_, _≤_, _<_}
+use native.Mathlib.Omega.{arith}
+use lib.Dec.{eqb}
+use lib.ListN.{length, getD}
+use borrow.Author.Tests.{eqb-true, eq-eqb}
+use Rattle.lists.specs.Lists.{bit, pick, sum, count, All, upTo}
+use Rattle.lists.specs.Laws.Tests.{by-test}
+use Rattle.lists.specs.Laws.All.{all-map, all-both}
+use Rattle.lists.specs.Laws.Sums.{sum-same, sum-plus}
+use Rattle.lists.specs.Laws.UpTo.{sum-suc}
+use Rattle.lists.specs.Laws.Kept.{sum-slack}
+use Rattle.model.specs.Model.{Model, Region, region, livesIn}
+use Rattle.model.specs.Laws.Regions.{found-itself}
+use Rattle.model.specs.Paged.{Paged, Lies, space, spaceOf}
+use Rattle.regions.specs.Regions.{tagOf, entryOf, newestAt}
+use Rattle.pages.specs.Pages.{ownerAt, pagesOf}
+use Rattle.outcomes.specs.Store.{Store, regions, pages}
+use Rattle.refinement.specs.Represents.{wordsIn, Tiles, RoomAgrees}
+use Rattle.refinement.specs.Laws.Tags.{tag-some}
+use Rattle.refinement.specs.Laws.Reads.{page-count}
+use Rattle.refinement.specs.Laws.Report.{names-live, ids-objects, held-pages}
+use Rattle.refinement.specs.Laws.AuditedObjects.{Agrees}
+
+pub tiles-sum : (L : Model) (sp : List ℕ) (a e : ℕ) (ps : List ℕ) → Tiles L sp a e ps → a + sum (λ q. length (wordsIn L q) + 1) ps ≡ e
+tiles-sum L sp a e [] t = omega (arith, t)
+tiles-sum L sp a e (q ∷ qs) t = omega (arith, tiles-sum L sp (a + 1 + length (wordsIn L q)) e qs (t .2))
+
+sum-ones : (n : ℕ) → sum (λ j. 1) (upTo n) ≡ n
+sum-ones zero = refl
+sum-ones (suc n) = omega (arith, sum-suc (λ j. 1) n, sum-ones n)
+
+sum-times : {A : Type 0} (f : A → ℕ) (l : List A) → sum (λ x. 64 * f x) l ≡ 64 * sum f l
+sum-times f [] = refl
+sum-times f (x ∷ xs) = omega (arith, sum-times f xs)
+
+module _ {L : Model} {sp : List ℕ} {ids : ℕ → List ℕ} (S : Store) (a : Agrees L sp ids S) where
+  -- each live region is the one found under its name
+  own : All (λ g. (livesIn L (g .name) ≡ true) × (region (L .regions) (g .name) ≡ g)) (L .regions)
+  own = all-both _ _ (L .regions) (names-live (L .regions)) (found-itself (L .regions) (a .valid .names .distinct))
+
+  -- the pages with tag t
+  pages-by : (t : ℕ) → pagesOf (pages S) t ≡ sum (λ j. bit (eqb (ownerAt (pages S) j) t)) (upTo ((pages S) .made))
+  unfolding pagesOf
+  pages-by t = ap (λ n. count (λ j. eqb (ownerAt (pages S) j) t) (upTo n)) (page-count (a .onPages))
+
+  -- whether the region named r holds page j, and the words that its objects take there
+  abbrev holds : ℕ → ℕ → Bool
+  holds r j = eqb (ownerAt (pages S) j) (tagOf (regions S) r)
+
+  pages-of : (g : Region) → (livesIn L (g .name) ≡ true) × (region (L .regions) (g .name) ≡ g) → g .pages ≡ sum (λ j. pick (holds (g .name) j) 1 0) (upTo ((pages S) .made))
+  pages-of g h =
+      ap (λ x. x .pages) (sym (h .1)) ∙ sym (a .onPages .held (g .name) (h .0)) ∙ pages-by (tagOf (regions S) (g .name))
+      ∙ ap (λ f. sum f (upTo ((pages S) .made))) (fun-ext (λ j. go (holds (g .name) j)))
+    where
+      go : (b : Bool) → bit b ≡ pick b 1 0
+      go true = refl
+      go false = refl
+
+  whole : L .free + sum (λ g. g .pages) (L .regions) ≡ (pages S) .made
+  whole =
+      let free : ℕ → Bool = λ j. eqb (ownerAt (pages S) j) 0 in
+      omega (
+        arith,
+        a .onPages .free,
+        pages-by 0,
+        sum-same (λ g. g .pages) _ (L .regions) (all-map pages-of (L .regions) own),
+        held-pages L sp ids (regions S) (pages S) (S .heap) (a .valid) (a .onRegions) (a .onPages) (a .onObjects) (λ j. 1),
+        sum-plus (λ j. bit (free j)) (λ j. pick (free j) 0 1) (upTo ((pages S) .made)),
+        ap (λ f. sum f (upTo ((pages S) .made))) (fun-ext (λ j. go (free j))),
+        sum-ones ((pages S) .made),
+      )
+    where
+      go : (b : Bool) → bit b + pick b 0 1 ≡ 1
+      go true = refl
+      go false = refl
+
+  lies : (g : Region) → (livesIn L (g .name) ≡ true) × (region (L .regions) (g .name) ≡ g) → Lies L g
+  unfolding space
+  lies g h = room (newestAt (regions S) (entryOf (regions S) (g .name))) (rw (h .1) at (a .onPages .room (g .name) (h .0)))
+    where
+      n : ℕ
+      n = (pages S) .made
+
+      taken : ℕ → ℕ
+      taken j = pick (holds (g .name) j) (sum (λ q. length (wordsIn L q) + 1) (ids j)) 0
+
+      space-is : sum (spaceOf (g .name)) (L .objects) ≡ sum taken (upTo n)
+      space-is = sym (ids-objects L (spaceOf (g .name))) ∙ sym (a .onObjects .once (g .name) (h .0) (λ q. length (wordsIn L q) + 1))
+
+      pages-are : 64 * g .pages ≡ sum (λ j. 64 * pick (holds (g .name) j) 1 0) (upTo n)
+      pages-are = omega (arith, pages-of g h, sum-times (λ j. pick (holds (g .name) j) 1 0) (upTo n))
+
+      -- a page that the region holds
+      on-page : (j : ℕ) → j < n → holds (g .name) j ≡ true → (sum (λ q. length (wordsIn L q) + 1) (ids j) ≡ getD ((pages S) .taken) j 0) × (getD ((pages S) .taken) j 0 ≤ 64)
+      on-page j k e =
+          let m : ownerAt (pages S) j ≢ 0 = λ z. tag-some (regions S) (g .name) (sym (eqb-true (ownerAt (pages S) j) (tagOf (regions S) (g .name)) e) ∙ z) in
+          (omega (arith, tiles-sum L sp (64 * j) (64 * j + getD ((pages S) .taken) j 0) (ids j) (a .onObjects .tiled j k m)), a .onObjects .full j k m)
+
+      few : (j : ℕ) → j < n → taken j ≤ 64 * pick (holds (g .name) j) 1 0
+      few j k = by-test (holds (g .name) j) (λ e. let t = on-page j k e in rw e (omega arith)) (λ e. rw e (omega arith))
+
+      left : (k c : ℕ) → k < n → taken k + c ≤ 64 * pick (holds (g .name) k) 1 0 → sum (spaceOf (g .name)) (L .objects) + c ≤ 64 * g .pages
+      left k c l e = omega (arith, space-is, pages-are, sum-slack taken (λ j. 64 * pick (holds (g .name) j) 1 0) n k c few l e)
+
+      room : (x : ℕ) → RoomAgrees (g .room) (pages S) (tagOf (regions S) (g .name)) x → sum (spaceOf (g .name)) (L .objects) + g .room ≤ 64 * g .pages
+      room zero e = omega (arith, left 0 0 (a .onPages .some) (omega (arith, few 0 (a .onPages .some))))
+      room (suc j) e =
+          let o : holds (g .name) j ≡ true = eq-eqb (ownerAt (pages S) j) (tagOf (regions S) (g .name)) (e .own) in
+          let t = on-page j (e .made) o in
+          left j (g .room) (e .made) (rw o (omega (arith, e .left)))
+
+  pub paged : Paged ((pages S) .made) L
+  paged = record { whole = whole; fits = all-map lies (L .regions) own }

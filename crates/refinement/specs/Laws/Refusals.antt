@@ -1,0 +1,215 @@
+-- A store that represents a valid model refuses a call just where the model does, by the same number.
+-- Assumes nothing.
+use mathlib.Core.Path.{_≡_, refl, sym, ap, ap₂, _∙_, fun-ext}
+use mathlib.Core.Bool.{Bool, true, false, not, _&&_, _||_, true≢false, false≢true}
+use mathlib.Core.List.{List, []}
+use Prim.Native.Nat.{ℕ, zero, suc, _+_, _-_, _≤_}
+use native.Mathlib.Omega.{arith}
+use lib.Dec.{eqb, ltb, leb}
+use lib.ListN.{length, getD, drop}
+use lib.Seq.{take-length}
+use borrow.Author.Tests.{eqb-false, ne-eqb, leb-true, leb-false, ltb-false, le-leb, lt-leb, lt-ltb, not-false}
+use Rattle.lists.specs.Lists.{pick, any, every, sum, from, upTo, times}
+use Rattle.lists.specs.Laws.Tests.{by-test, neither, eqb-sym}
+use Rattle.lists.specs.Laws.Finds.{any-map, any-sum, any-count, every-same}
+use Rattle.lists.specs.Laws.Sums.{sum-same}
+use Rattle.lists.specs.Laws.UpTo.{all-from, all-upTo, sum-part, every-places}
+use Rattle.model.specs.Model.{Model, Call, declare, newRegion, subregion, push, dropFrame, handBack, allocate, first, copy, fetch, clear, load, setPointer, put, get, view, same, about, report, totals, audit, delete}
+use Rattle.model.specs.Model.{region, livesIn, homeIn, parentIn, top, beneath, slot, held, heldMarks, markAt, allowed, into, inFrames, stored, outside, subregions}
+use Rattle.model.specs.Calls.{checks, refusal, lacks, noFrame, oneFrame, null, noWord, dead, size, fits}
+use Rattle.model.specs.Valid.{Valid}
+use Rattle.model.specs.Laws.Slots.{held-lives}
+use Rattle.model.specs.Laws.Counts.{outside-stored}
+use Rattle.frames.specs.Frames.{widthAt, slotAt}
+use Rattle.regions.specs.Regions.{countAt, nameOf, entryOf, tagOf, parentAt, newestAt}
+use Rattle.pages.specs.Pages.{takenAt, ownerOf}
+use Rattle.outcomes.specs.Store.{Store, frames, kinds, regions, pages, slot as storeSlot, slotTargets, ledInto, breaks, roomy, size as storeSize}
+use Rattle.outcomes.specs.Outcome.{checks as storeChecks, refusal as storeRefusal, badLength, noFrame as storeNoFrame, oneFrame as storeOneFrame, lacks as storeLacks, lacksBeneath, dead as storeDead, full, namesOut, noWord as storeNoWord, isData, allData}
+use Rattle.refinement.specs.Represents.{Represents, RoomAgrees, spot}
+use Rattle.refinement.specs.Laws.Tags.{live-is, live-count, parent-name, subregions-are}
+use Rattle.refinement.specs.Laws.Counts.{slots-into}
+use Rattle.refinement.specs.Laws.Reads.{frame-count, top-width, beneath-width, kind-count, right-length, top-known, slot-is, sized-known, spot-zero, kind-is, size-is, mark-is, owner-name}
+
+-- the first tests agree, and the rest do where the first fails
+step : (a b : Bool) (n x y : ℕ) → a ≡ b → (b ≡ false → x ≡ y) → pick a n x ≡ pick b n y
+step true true n x y e h = refl
+step true false n x y e h = absurd (true≢false e)
+step false true n x y e h = absurd (false≢true e)
+step false false n x y e h = h refl
+
+-- the last tests agree
+end : (a b : Bool) (n : ℕ) → a ≡ b → pick a n 0 ≡ pick b n 0
+end a b n e = step a b n 0 0 e (λ _. refl)
+
+module _ {L : Model} {sp : List ℕ} {ids : ℕ → List ℕ} {S : Store} (v : Valid L) (h : Represents L sp ids S) where
+  -- ---- each test
+
+  right : badLength S ≡ false
+  unfolding badLength
+  right = right-length (h .onPages)
+
+  no-frame : storeNoFrame S ≡ noFrame L
+  unfolding storeNoFrame
+  no-frame = ap (λ n. eqb n 0) (h .onFrames .standing)
+
+  one-frame : storeOneFrame S ≡ oneFrame L
+  unfolding storeOneFrame
+  one-frame = ap (λ n. ltb n 2) (h .onFrames .standing)
+
+  lacks-is : noFrame L ≡ false → (s : ℕ) → storeLacks S s ≡ lacks (top L) s
+  unfolding storeLacks
+  lacks-is e s = ap (λ n. leb n s) (top-width (h .onFrames) (eqb-false (length (L .frames)) 0 e))
+
+  lacks-beneath : oneFrame L ≡ false → (s : ℕ) → lacksBeneath S s ≡ lacks (beneath L) s
+  unfolding lacksBeneath
+  lacks-beneath e s = ap (λ n. leb n s) (beneath-width (h .onFrames) (ltb-false (length (L .frames)) 2 e))
+
+  two-frames : oneFrame L ≡ false → noFrame L ≡ false
+  two-frames e = ne-eqb (length (L .frames)) 0 (λ z. omega (arith, ltb-false (length (L .frames)) 2 e))
+
+  dead-is : (r : ℕ) → storeDead S r ≡ dead L r
+  unfolding storeDead
+  dead-is r = ap not (live-is (h .onRegions) r)
+
+  full-is : full S ≡ leb 64 (length (L .regions))
+  unfolding full
+  full-is = ap (leb 64) (live-count (h .onRegions))
+
+  names-out : namesOut S ≡ leb 1000000 (L .given)
+  unfolding namesOut
+  names-out = ap (leb 1000000) (h .onRegions .given)
+
+  module _ (s : ℕ) (k : lacks (top L) s ≡ false) where
+    null-is : eqb (storeSlot S s) 0 ≡ null L s
+    null-is = rw (slot-is h s k) (spot-zero (h .onObjects) (slot L s) (top-known v s))
+
+    word-none : (w : ℕ) → storeNoWord S s w ≡ noWord L s w
+    unfolding storeNoWord
+    word-none w = rw (slot-is h s k) (ap (λ n. leb n w) (size-is (h .onObjects) (h .onKinds) v (slot L s) (top-known v s)))
+
+    data-is : (w : ℕ) → noWord L s w ≡ false → isData S s w ≡ eqb (markAt L s w) 0
+    unfolding isData
+    data-is w n = rw (slot-is h s k) (ap (λ m. eqb m 0) (mark-is (h .onObjects) (h .onKinds) v (slot L s) w (top-known v s) (leb-false (length ((held L s) .words)) w n)))
+
+    all-data : allData S s ≡ every (eqb 0) (heldMarks L s)
+    unfolding allData
+    all-data =
+        rw (slot-is h s k, kind-is (h .onObjects) (slot L s) (top-known v s), size-is (h .onObjects) (h .onKinds) v (slot L s) (top-known v s), sized-known v (slot L s) (top-known v s))
+        (every-same _ _ (upTo (length (heldMarks L s))) (all-upTo _ (length (heldMarks L s)) (λ w b. rw (h .onKinds .marked ((held L s) .kind) w b) (eqb-sym (markAt L s w) 0)))
+        ∙ every-places (eqb 0) (heldMarks L s) 0)
+
+  pub parent-is : (q : ℕ) → livesIn L (homeIn L q) ≡ true → nameOf (regions S) (parentAt (regions S) (ownerOf (pages S) (spot sp q) - 1)) ≡ parentIn L (homeIn L q)
+  unfolding tagOf
+  parent-is q l =
+      let e : ownerOf (pages S) (spot sp q) - 1 ≡ entryOf (regions S) (homeIn L q) = omega (arith, h .onObjects .owned q l) in
+      rw e (parent-name (h .onRegions) v (homeIn L q) l)
+
+  breaks-is : (s w t : ℕ) → lacks (top L) s ≡ false → lacks (top L) t ≡ false → null L s ≡ false → noWord L s w ≡ false
+      → breaks S (storeSlot S s) w (storeSlot S t) ≡ not (allowed (parentIn L) (homeIn L) ((held L s) .home) (markAt L s w) (slot L t))
+  unfolding breaks allowed
+  breaks-is s w t k m n o = rw (
+    slot-is h s k,
+    slot-is h t m,
+    spot-zero (h .onObjects) (slot L t) (top-known v t),
+    mark-is (h .onObjects) (h .onKinds) v (slot L s) w (top-known v s) (leb-false (length ((held L s) .words)) w o),
+    owner-name (h .onObjects) (h .onRegions) (slot L t) (top-known v t),
+    owner-name (h .onObjects) (h .onRegions) (slot L s) (top-known v s),
+    parent-is (slot L s) (held-lives L v s n),
+  )
+
+  pub size-same : (k : ℕ) → storeSize S k ≡ size L k
+  unfolding storeSize
+  size-same k = omega (arith, h .onKinds .sizes k)
+
+  pub roomy-is : (r n : ℕ) → livesIn L r ≡ true → 1 ≤ n → roomy S (entryOf (regions S) r) n ≡ fits (region (L .regions) r) n
+  unfolding roomy takenAt
+  roomy-is r n l k = go (newestAt (regions S) (entryOf (regions S) r)) (h .onPages .room r l)
+    where
+      go : (j : ℕ) → RoomAgrees ((region (L .regions) r) .room) (pages S) (tagOf (regions S) r) j
+          → not (eqb j 0 || leb 65 (takenAt (pages S) (j - 1) + n)) ≡ leb n ((region (L .regions) r) .room)
+      go zero a = sym (lt-leb n ((region (L .regions) r) .room) (omega arith))
+      go (suc j) a =
+          let e : suc j - 1 ≡ j = omega arith in
+          by-test (leb n ((region (L .regions) r) .room))
+          (λ b. rw (b, ne-eqb (suc j) 0 (λ z. omega arith), e, lt-leb 65 (takenAt (pages S) j + n) (omega (arith, a .left, leb-true n ((region (L .regions) r) .room) b))))
+          (λ b. rw (b, ne-eqb (suc j) 0 (λ z. omega arith), e, le-leb 65 (takenAt (pages S) j + n) (omega (arith, a .left, leb-false n ((region (L .regions) r) .room) b))))
+
+  -- the look over the uncounted frames finds what the stored count lacks
+  look-is : (r : ℕ) → livesIn L r ≡ true → ledInto S (tagOf (regions S) r) ≡ ltb 0 (inFrames (homeIn L) r (drop (L .counted) (L .frames)))
+  unfolding ledInto slotTargets inFrames
+  look-is r l =
+      let t = tagOf (regions S) r in
+      let fs = L .frames in
+      let m = L .counted in
+      let e : m + (length fs - m) ≡ length fs = omega (arith, v .frames .mark) in
+      ap₂ (λ k n. any (λ i. any (λ s. eqb (ownerOf (pages S) (slotAt (frames S) i s)) t) (upTo (widthAt (frames S) i))) (from k (n - k))) (h .onFrames .counted) (frame-count (h .onFrames) (v .frames .many))
+      ∙ ap (λ f. any f (from m (length fs - m))) (fun-ext (λ i.
+      sym (any-map (λ x. eqb x t) (λ s. ownerOf (pages S) (slotAt (frames S) i s)) (upTo (widthAt (frames S) i))) ∙ any-count (λ x. eqb x t) (slotTargets S i)))
+      ∙ any-sum (λ i. times t (slotTargets S i)) (from m (length fs - m))
+      ∙ ap (ltb 0) (sum-same _ (λ i. sum (into (homeIn L) r) (getD fs i [])) (from m (length fs - m)) (all-from _ m (length fs - m) (λ i a b. slots-into S v (h .onFrames) (h .onRegions) (h .onObjects) r l i (omega arith)))
+      ∙ sum-part (sum (into (homeIn L) r)) fs [] m (length fs - m) (length fs) e (omega arith) ∙ ap (λ x. sum (sum (into (homeIn L) r)) (drop m x)) (take-length fs))
+
+  led-is : (r : ℕ) → livesIn L r ≡ true → (not (eqb (countAt (regions S) (entryOf (regions S) r)) 0) || ledInto S (tagOf (regions S) r)) ≡ not (eqb (outside L r) 0)
+  led-is r l = rw (look-is r l, h .counts r l, outside-stored L r) (go (stored L r) (inFrames (homeIn L) r (drop (L .counted) (L .frames))))
+    where
+      go : (a b : ℕ) → (not (eqb a 0) || ltb 0 b) ≡ not (eqb (a + b) 0)
+      go zero zero = refl
+      go zero (suc b) = rw (lt-ltb 0 (suc b) (omega arith), ne-eqb (0 + suc b) 0 (λ e. omega arith))
+      go (suc a) b = rw (ne-eqb (suc a) 0 (λ e. omega arith), ne-eqb (suc a + b) 0 (λ e. omega arith))
+
+  -- ---- tests that calls share
+
+  module _ {x y : ℕ} where
+    slot-6-9 : (s : ℕ) → (lacks (top L) s ≡ false → x ≡ y) → pick (storeNoFrame S) 6 (pick (storeLacks S s) 9 x) ≡ pick (noFrame L) 6 (pick (lacks (top L) s) 9 y)
+    slot-6-9 s e = step _ (noFrame L) 6 _ _ no-frame (λ n. step _ (lacks (top L) s) 9 x y (lacks-is n s) e)
+
+    slots-6-9 : (s t : ℕ) → (lacks (top L) s ≡ false → lacks (top L) t ≡ false → x ≡ y)
+        → pick (storeNoFrame S) 6 (pick (storeLacks S s || storeLacks S t) 9 x) ≡ pick (noFrame L) 6 (pick (lacks (top L) s || lacks (top L) t) 9 y)
+    slots-6-9 s t e = step _ (noFrame L) 6 _ _ no-frame (λ n. step _ (lacks (top L) s || lacks (top L) t) 9 x y (ap₂ _||_ (lacks-is n s) (lacks-is n t))
+        (λ k. let q = neither (lacks (top L) s) (lacks (top L) t) k in e (q .0) (q .1)))
+
+    word-14-15 : (s w : ℕ) → lacks (top L) s ≡ false → (null L s ≡ false → noWord L s w ≡ false → x ≡ y)
+        → pick (eqb (storeSlot S s) 0) 14 (pick (storeNoWord S s w) 15 x) ≡ pick (null L s) 14 (pick (noWord L s w) 15 y)
+    word-14-15 s w k e = step _ (null L s) 14 _ _ (null-is s k) (λ n. step _ (noWord L s w) 15 x y (word-none s k w) (e n))
+
+  regions-4-5 : pick {A = ℕ} (full S) 4 (pick (namesOut S) 5 0) ≡ pick (leb 64 (length (L .regions))) 4 (pick (leb 1000000 (L .given)) 5 0)
+  regions-4-5 = step _ (leb 64 (length (L .regions))) 4 _ _ full-is (λ n. end _ (leb 1000000 (L .given)) 5 names-out)
+
+  -- put has the tests of get
+  get-agrees : (s w : ℕ) → storeRefusal S (get s w) ≡ refusal L (get s w)
+  unfolding storeRefusal storeChecks refusal checks
+  get-agrees s w = rw right (slot-6-9 s (λ k. word-14-15 s w k (λ n o. end _ (not (eqb (markAt L s w) 0)) 16 (ap not (data-is s k w o)))))
+
+  pub refusals-agree : (c : Call) → storeRefusal S c ≡ refusal L c
+  unfolding storeRefusal storeChecks refusal checks
+  refusals-agree (declare ms) = rw right (ap (λ n. pick (eqb (length ms) 0 || ltb 16 (length ms) || any (ltb 4) ms) 11 n) (end _ (leb 16 (length (L .kinds))) 10 (ap (leb 16) (h .onKinds .declared))))
+  refusals-agree newRegion = rw right regions-4-5
+  refusals-agree (subregion r) = rw right (step _ (dead L r) 2 _ _ (dead-is r)
+      (λ l. step _ (leb 16 ((region (L .regions) r) .level)) 20 _ _ (ap (leb 16) (h .onRegions .entry r (not-false (livesIn L r) l) .level)) (λ n. regions-4-5)))
+  refusals-agree (push n) = rw right (ap (λ m. pick (eqb n 0 || ltb 8 n) 8 m) (end _ (leb 32 (length (L .frames))) 7 (ap (leb 32) (h .onFrames .standing))))
+  refusals-agree dropFrame = rw right (end _ (noFrame L) 6 no-frame)
+  refusals-agree (handBack s b) = rw right (step _ (oneFrame L) 6 _ _ one-frame
+      (λ n. end _ (lacks (top L) s || lacks (beneath L) b) 9 (ap₂ _||_ (lacks-is (two-frames n) s) (lacks-beneath n b))))
+  refusals-agree (allocate s r k) = rw right (slot-6-9 s (λ m. step _ (dead L r) 2 _ _ (dead-is r) (λ l.
+      step _ (eqb k 0 || ltb (length (L .kinds)) k) 12 _ _ (ap (λ n. eqb k 0 || ltb n k) (kind-count (h .onKinds) (v .kinds .many))) (λ n.
+      end _ (not (fits (region (L .regions) r) (size L k)) && eqb (L .free) 0) 13
+      (ap₂ (λ a b. not a && eqb b 0) (ap (roomy S (entryOf (regions S) r)) (size-same k) ∙ roomy-is r (size L k) (not-false (livesIn L r) l) (omega arith)) (h .onPages .free))))))
+  refusals-agree (first s r) = rw right (slot-6-9 s (λ k. end _ (dead L r) 2 (dead-is r)))
+  refusals-agree (copy s t) = rw right (slots-6-9 s t (λ k m. refl))
+  refusals-agree (fetch b s) = rw right (step _ (oneFrame L) 6 _ _ one-frame
+      (λ n. end _ (lacks (beneath L) b || lacks (top L) s) 9 (ap₂ _||_ (lacks-beneath n b) (lacks-is (two-frames n) s))))
+  refusals-agree (clear s) = rw right (slot-6-9 s (λ k. refl))
+  refusals-agree (load s w t) = rw right (slots-6-9 s t (λ k m. word-14-15 s w k (λ n o. end _ (eqb (markAt L s w) 0) 16 (data-is s k w o))))
+  refusals-agree (setPointer s w t) = rw right (slots-6-9 s t (λ k m. word-14-15 s w k (λ n o. step _ (eqb (markAt L s w) 0) 16 _ _ (data-is s k w o) (λ d.
+      end _ (not (allowed (parentIn L) (homeIn L) ((held L s) .home) (markAt L s w) (slot L t))) 17 (breaks-is s w t k m n o)))))
+  refusals-agree (put s w x) = get-agrees s w
+  refusals-agree (get s w) = get-agrees s w
+  refusals-agree (view s) = rw right (slot-6-9 s (λ k. step _ (null L s) 14 _ _ (null-is s k) (λ n. end _ (not (every (eqb 0) (heldMarks L s))) 16 (ap not (all-data s k)))))
+  refusals-agree (same s t) = rw right (slots-6-9 s t (λ k m. refl))
+  refusals-agree (about s) = rw right (slot-6-9 s (λ k. refl))
+  refusals-agree (report r) = rw right (end _ (dead L r) 2 (dead-is r))
+  refusals-agree totals = refl
+  refusals-agree audit = refl
+  refusals-agree (delete r) = rw right (step _ (dead L r) 2 _ _ (dead-is r) (λ l. ap (λ n. pick (eqb r 1) 3 n)
+      (step _ (not (eqb (subregions L r) 0)) 18 _ _ (ap (λ n. not (eqb n 0)) (subregions-are (h .onRegions) v r (not-false (livesIn L r) l))) (λ n.
+      end _ (not (eqb (outside L r) 0)) 19 (led-is r (not-false (livesIn L r) l))))))

@@ -1,0 +1,161 @@
+-- The outside pointers that are counted in a store are the model's.
+-- Assumes nothing.
+use mathlib.Core.Path.{_≡_, refl, sym, ap, _∙_, fun-ext}
+use mathlib.Core.Logic.{_⊎_, inl, inr, _≢_}
+use mathlib.Core.Bool.{Bool, true, false, not, _&&_, _||_}
+use mathlib.Core.List.{List, [], _∷_}
+use Prim.Native.Nat.{ℕ, suc, _+_, _-_, _<_}
+use native.Mathlib.Omega.{arith}
+use lib.Dec.{eqb}
+use lib.ListN.{length, getD}
+use lib.Seq.{take-length}
+use borrow.Author.Tests.{eqb-true, eqb-false, eq-eqb, not-false}
+use Rattle.lists.specs.Lists.{bit, pick, sum, sum₂, count, All, upTo}
+use Rattle.lists.specs.Laws.Tests.{by-test, both, or-right, eqb-sym}
+use Rattle.lists.specs.Laws.All.{all-map, all₂-map}
+use Rattle.lists.specs.Laws.Sums.{sum-same, sum₂-same, sum-pick, sum-map, sum-swap}
+use Rattle.lists.specs.Laws.UpTo.{sum-below, sum-part, sum-places}
+use Rattle.model.specs.Model.{Model, Answer, report, Object, Region, noObject, object, marks, live, livesIn, homeIn, parentIn, into, freeInto, inFrames, fromObject, inWords, words, outside}
+use Rattle.model.specs.Calls.{checks, refusal, reply, accepted}
+use Rattle.model.specs.Valid.{Valid, Distinct, fine}
+use Rattle.model.specs.Laws.Passed.{passed}
+use Rattle.model.specs.Laws.Slots.{object-valid}
+use Rattle.frames.specs.Frames.{widthAt, slotAt}
+use Rattle.regions.specs.declared.Regions.{Regions}
+use Rattle.regions.specs.Regions.{tagOf}
+use Rattle.pages.specs.declared.Pages.{Pages}
+use Rattle.pages.specs.Pages.{pageCount, ownerAt, ownerOf}
+use Rattle.objects.specs.Objects.{freeWordsOn}
+use Rattle.outcomes.specs.Store.{Store, frames, kinds, regions, pages, slotTargets, slotsInto, wordsInto, outsideOf}
+use Rattle.outcomes.specs.Outcome.{Accepted}
+use Rattle.refinement.specs.Represents.{spot, Alive, wordsIn, idsIn, tagFor, FramesAgree, KindsAgree, RegionsAgree, PagesAgree, ObjectsAgree, Represents}
+use Rattle.refinement.specs.Laws.Tags.{Named, zero-dead, live-for, tag-for, for-same, tag-same, subregions-are}
+use Rattle.refinement.specs.Laws.Reads.{frame-count, page-count}
+use Rattle.refinement.specs.Laws.Counts.{leads-into, slots-into}
+use Rattle.refinement.specs.Laws.Walks.{marksIn, free-words-on, homes-on}
+
+-- one region of the list has the name r, if it lives
+named-once : (gs : List Region) → Distinct gs → (r c : ℕ) → sum (λ x. pick (eqb r (x .name)) c 0) gs ≡ pick (live gs r) c 0
+named-once [] d r c = refl
+named-once (x ∷ xs) d r c = rw (eqb-sym r (x .name)) (go (eqb (x .name) r) refl (named-once xs (d .1) r c))
+  where
+    go : (b : Bool) → eqb (x .name) r ≡ b → sum (λ x. pick (eqb r (x .name)) c 0) xs ≡ pick (live xs r) c 0 → pick b c 0 + sum (λ x. pick (eqb r (x .name)) c 0) xs ≡ pick (b || live xs r) c 0
+    go true e ih = let z : live xs r ≡ false = rw (eqb-true (x .name) r e) at (d .0) in omega (arith, rw z at ih)
+    go false e ih = omega arith
+
+pub names-live : (gs : List Region) → All (λ x. live gs (x .name) ≡ true) gs
+names-live [] = tt
+names-live (x ∷ xs) = (rw (eq-eqb (x .name) (x .name) refl), all-map (λ y l. or-right (eqb (x .name) (y .name)) (live xs (y .name)) l) xs (names-live xs))
+
+-- what object q's words marked 1 add to the outside pointers of r, if it is of another region
+abbrev pub weight : Model → ℕ → ℕ → ℕ
+weight L r q = sum₂ (freeInto (homeIn L) r) (marksIn L q) (wordsIn L q)
+
+-- whatever is added up over the ids comes to the same over the objects
+pub ids-objects : (L : Model) (f : Object → ℕ) → sum (λ q. f (object (L .objects) q)) (idsIn L) ≡ sum f (L .objects)
+ids-objects L f = sum-part f (noObject ∷ L .objects) noObject 1 (length (L .objects)) (suc (length (L .objects))) (omega arith) (omega arith) ∙ ap (sum f) (take-length (L .objects))
+
+module _ (L : Model) (sp : List ℕ) (ids : ℕ → List ℕ) (g : Regions) (p : Pages) (heap : List ℕ) (v : Valid L) (onRegions : RegionsAgree L sp g) (onPages : PagesAgree L g p (length heap)) (onObjects : ObjectsAgree L sp ids g p heap) where
+  -- whatever is added up over all held pages comes to the same over the pages of each live region
+  pub held-pages : (c : ℕ → ℕ) → sum (λ j. pick (eqb (ownerAt p j) 0) 0 (c j)) (upTo (p .made)) ≡ sum (λ x. sum (λ j. pick (eqb (ownerAt p j) (tagOf g (x .name))) (c j) 0) (upTo (p .made))) (L .regions)
+  held-pages c = sum-below _ _ (p .made) (λ j h. page j (onPages .owned j h)) ∙ sum-swap (λ j x. pick (eqb (ownerAt p j) (tagOf g (x .name))) (c j) 0) (upTo (p .made)) (L .regions)
+    where
+      lives : (r : ℕ) → Named L r → (n : ℕ) → pick (eqb r 0) 0 n ≡ pick (livesIn L r) n 0
+      lives r k n = by-test (eqb r 0) (λ e. rw (eqb-true r 0 e, zero-dead onRegions)) (λ e. rw (e, rw e at k))
+
+      owner : (r : ℕ) → Named L r → (n : ℕ) → pick (eqb (tagFor g r) 0) 0 n ≡ sum (λ x. pick (eqb (tagFor g r) (tagOf g (x .name))) n 0) (L .regions)
+      owner r k n =
+          ap (λ b. pick b 0 n) (for-same onRegions r 0 k refl) ∙ lives r k n ∙ sym (named-once (L .regions) (v .names .distinct) r n)
+          ∙ sum-same (λ x. pick (eqb r (x .name)) n 0) (λ x. pick (eqb (tagFor g r) (tagOf g (x .name))) n 0) (L .regions) (all-map each (L .regions) (names-live (L .regions)))
+        where
+          each : (x : Region) → livesIn L (x .name) ≡ true → pick (eqb r (x .name)) n 0 ≡ pick (eqb (tagFor g r) (tagOf g (x .name))) n 0
+          each x l = ap (λ b. pick b n 0) (sym (for-same onRegions r (x .name) k (live-for onRegions (x .name) l)) ∙ ap (eqb (tagFor g r)) (tag-for onRegions (x .name) l))
+
+      page : (j : ℕ) → (ownerAt p j ≡ 0) ⊎ ((r : ℕ) × (livesIn L r ≡ true) × (ownerAt p j ≡ tagOf g r)) → pick (eqb (ownerAt p j) 0) 0 (c j) ≡ sum (λ x. pick (eqb (ownerAt p j) (tagOf g (x .name))) (c j) 0) (L .regions)
+      page j (inl e) = rw e (owner 0 refl (c j))
+      page j (inr (r, l, e)) = rw (e, ← (tag-for onRegions r l)) (owner r (live-for onRegions r l) (c j))
+
+  -- whatever is added up over the objects of all held pages comes to the same over the objects of live regions
+  pub held-objects : (f : ℕ → ℕ) → sum (λ j. pick (eqb (ownerAt p j) 0) 0 (sum f (ids j))) (upTo (p .made)) ≡ sum (λ q. pick (livesIn L (homeIn L q)) (f q) 0) (idsIn L)
+  held-objects f =
+      held-pages (λ j. sum f (ids j))
+      ∙ sum-same _ _ (L .regions) (all-map (λ x l. onObjects .once (x .name) l f) (L .regions) (names-live (L .regions)))
+      ∙ sum-swap (λ x q. pick (eqb (homeIn L q) (x .name)) (f q) 0) (L .regions) (idsIn L)
+      ∙ ap (λ f. sum f (idsIn L)) (fun-ext (λ q. named-once (L .regions) (v .names .distinct) (homeIn L q) (f q)))
+
+module _ (L : Model) (sp : List ℕ) (ids : ℕ → List ℕ) (S : Store) (v : Valid L) (onKinds : KindsAgree (L .kinds) (kinds S)) (onRegions : RegionsAgree L sp (regions S))
+    (onPages : PagesAgree L (regions S) (pages S) (length (S .heap))) (onObjects : ObjectsAgree L sp ids (regions S) (pages S) (S .heap)) (r : ℕ) (l : livesIn L r ≡ true) where
+  -- the words marked 1 on a held page that lead into r
+  pub page-words : (j : ℕ) → j < (pages S) .made → ownerAt (pages S) j ≢ 0
+      → count (λ x. eqb (ownerOf (pages S) x) (tagOf (regions S) r)) (freeWordsOn (kinds S) (S .heap) (pages S) j) ≡ sum (weight L r) (ids j)
+  page-words j made held =
+      free-words-on L sp ids (regions S) (kinds S) (pages S) (S .heap) v onKinds onObjects j made held (λ x. bit (eqb (ownerOf (pages S) x) (tagOf (regions S) r)))
+      ∙ sum-same _ _ (ids j) (all-map each (ids j) (homes-on v onObjects j made held))
+    where
+      word : (h m x : ℕ) → fine (livesIn L) (parentIn L) (homeIn L) h m x ≡ true
+          → pick (eqb m 1) (bit (eqb (ownerOf (pages S) (spot sp x)) (tagOf (regions S) r))) 0 ≡ freeInto (homeIn L) r m x
+      word h m x f = by-test (eqb m 1)
+          (λ e. let k = both _ _ (rw (eqb-true m 1 e) at f) in ap (λ b. pick (eqb m 1) (bit b) 0) (leads-into onRegions onObjects r l x (k .0)))
+          (λ e. rw e)
+
+      each : (q : ℕ) → Alive L q × (ownerAt (pages S) j ≡ tagOf (regions S) (homeIn L q))
+          → sum₂ (λ m x. pick (eqb m 1) (bit (eqb (ownerOf (pages S) (spot sp x)) (tagOf (regions S) r))) 0) (marksIn L q) (wordsIn L q) ≡ weight L r q
+      each q h = sum₂-same _ _ (marksIn L q) (wordsIn L q) (all₂-map (word (homeIn L q)) (marksIn L q) (wordsIn L q) (object-valid L v q (h .0) .marked (h .0)))
+
+  -- the words marked 1 of all pages that lead into r
+  words-are : sum (wordsInto S (tagOf (regions S) r)) (upTo (pageCount (pages S))) ≡ words L r
+  unfolding wordsInto inWords fromObject
+  words-are =
+      let other : ℕ → ℕ = λ q. pick (not (eqb (homeIn L q) r)) (weight L r q) 0 in
+      let lives : Object → ℕ = λ o. pick (livesIn L (o .home) && not (eqb (o .home) r)) (sum₂ (freeInto (homeIn L) r) (marks (L .kinds) (o .kind)) (o .words)) 0 in
+      rw (page-count onPages)
+      (sum-below _ (λ j. pick (eqb (ownerAt (pages S) j) 0) 0 (sum other (ids j))) ((pages S) .made) page
+      ∙ held-objects L sp ids (regions S) (pages S) (S .heap) v onRegions onPages onObjects other
+      ∙ ap (λ f. sum f (idsIn L)) (fun-ext (λ q. alive (livesIn L (homeIn L q)) (not (eqb (homeIn L q) r)) (weight L r q)))
+      ∙ ids-objects L lives)
+    where
+      alive : (a b : Bool) (n : ℕ) → pick a (pick b n 0) 0 ≡ pick (a && b) n 0
+      alive true b n = refl
+      alive false b n = refl
+
+      page : (j : ℕ) → j < (pages S) .made
+          → pick (eqb (ownerAt (pages S) j) 0 || eqb (ownerAt (pages S) j) (tagOf (regions S) r)) 0 (count (λ x. eqb (ownerOf (pages S) x) (tagOf (regions S) r)) (freeWordsOn (kinds S) (S .heap) (pages S) j))
+          ≡ pick (eqb (ownerAt (pages S) j) 0) 0 (sum (λ q. pick (not (eqb (homeIn L q) r)) (weight L r q) 0) (ids j))
+      page j made = by-test (eqb (ownerAt (pages S) j) 0) (λ e. rw e) (λ e.
+          let held = eqb-false (ownerAt (pages S) j) 0 e in
+          rw (e, page-words j made held) (own (eqb (ownerAt (pages S) j) (tagOf (regions S) r))
+          ∙ sym (sum-pick (not (eqb (ownerAt (pages S) j) (tagOf (regions S) r))) (weight L r) (ids j))
+          ∙ sum-same _ _ (ids j) (all-map each (ids j) (homes-on v onObjects j made held))))
+        where
+          own : (b : Bool) → pick b 0 (sum (weight L r) (ids j)) ≡ pick (not b) (sum (weight L r) (ids j)) 0
+          own true = refl
+          own false = refl
+
+          each : (q : ℕ) → Alive L q × (ownerAt (pages S) j ≡ tagOf (regions S) (homeIn L q))
+              → pick (not (eqb (ownerAt (pages S) j) (tagOf (regions S) r))) (weight L r q) 0 ≡ pick (not (eqb (homeIn L q) r)) (weight L r q) 0
+          each q h = rw (h .1, tag-same onRegions (homeIn L q) r (h .0) l)
+
+  module _ (onFrames : FramesAgree sp (L .frames) (L .counted) (frames S)) where
+    -- the slots of a frame that lead into r
+    frame-slots : (i : ℕ) → i < length (L .frames) → slotsInto S (tagOf (regions S) r) i ≡ sum (into (homeIn L) r) (getD (L .frames) i [])
+    unfolding slotsInto slotTargets
+    frame-slots i h = sym (sum-map (λ t. bit (eqb t (tagOf (regions S) r))) (λ s. ownerOf (pages S) (slotAt (frames S) i s)) (upTo (widthAt (frames S) i))) ∙ slots-into S v onFrames onRegions onObjects r l i h
+
+    pub outside-is : outsideOf S (tagOf (regions S) r) ≡ outside L r
+    unfolding outsideOf outside inFrames
+    outside-is =
+        let n = length (L .frames) in
+        rw (
+          frame-count onFrames (v .frames .many),
+          words-are,
+          sum-below (slotsInto S (tagOf (regions S) r)) (λ i. sum (into (homeIn L) r) (getD (L .frames) i [])) n frame-slots,
+          sum-places (sum (into (homeIn L) r)) (L .frames) [],
+        ) (omega arith)
+
+pub report-step : (L : Model) (sp : List ℕ) (ids : ℕ → List ℕ) (S : Store) → Valid L → Represents L sp ids S → (a : Answer) (T : Store) (r : ℕ) → refusal L (report r) ≡ 0 → Accepted (report r) S a T
+    → (a ≡ reply L (report r)) × Represents (accepted L (report r)) sp ids T
+unfolding checks Accepted reply accepted
+report-step L sp ids S v h a T r e (x, y) =
+    let l = not-false (livesIn L r) (passed L (report r) e .0) in
+    let o = outside-is L sp ids S v (h .onKinds) (h .onRegions) (h .onPages) (h .onObjects) r l (h .onFrames) in
+    (x ∙ rw (h .counts r l, o, h .onPages .held r l, subregions-are (h .onRegions) v r l), rw y h)

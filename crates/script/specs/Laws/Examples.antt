@@ -1,0 +1,58 @@
+-- Lines and what they say, by computation: one test over the table, and every name with as many arguments as it takes.
+-- Assumes nothing.
+use mathlib.Core.Path.{_≡_, refl}
+use mathlib.Core.Bool.{Bool, true, false, _&&_}
+use mathlib.Core.List.{List, [], _∷_, _++_}
+use Prim.Native.Nat.{ℕ}
+use Prim.Native.String.{String}
+use lib.Dec.{eqb}
+use lib.ListN.{getD, replicate}
+use Rattle.lists.specs.Lists.{every, joined, from, upTo}
+use Rattle.script.specs.declared.Line.{Line}
+use Rattle.script.specs.Script.{bytes, blank, inWord, words, value, names, counts, equal, placed, callOf, allowed, zeros, line, bad, given, said, scanned}
+
+-- a line, whether a store is made before it, and the call and arguments that it says
+record Row : Type 0 where
+  text : List ℕ
+  made : Bool
+  call : ℕ
+  args : List ℕ
+
+alike : Line → Line → Bool
+alike a b = eqb (a .call) (b .call) && eqb (a .count) (b .count) && equal (a .args) (b .args)
+
+right : Row → Bool
+right r = alike (scanned (r .made) (r .text)) (line (r .call) (r .args))
+
+says : String → ℕ → List ℕ → Row
+says t n vs = record { text = bytes t; made = true; call = n; args = vs }
+
+-- a line before the store is made
+opens : String → ℕ → List ℕ → Row
+opens t n vs = record { text = bytes t; made = false; call = n; args = vs }
+
+-- call n by its name, with k arguments, each of them 7
+sevens : ℕ → ℕ → List ℕ
+sevens n k = getD ([] ∷ names) n [] ++ joined (λ i. bytes " 7") (upTo k)
+
+table : List Row
+table =
+    says "" 0 [] ∷ says " \t# push 2" 0 [] ∷ opens "# pages 2" 0 []
+    ∷ opens "pages 2" 1 (2 ∷ []) ∷ opens "pages 257" 1 (257 ∷ []) ∷ opens "pages 258" 24 [] ∷ opens "pages" 24 [] ∷ says "pages 2" 24 []
+    ∷ opens "push 2" 24 [] ∷ says "push 2" 5 (2 ∷ []) ∷ says "push" 24 [] ∷ says "push 2 2" 24 [] ∷ says "pushed 2" 24 [] ∷ says "push 2x" 24 []
+    ∷ says "set_pointer 0 0 1" 14 (0 ∷ 0 ∷ 1 ∷ []) ∷ says "14 0 0 1" 14 (0 ∷ 0 ∷ 1 ∷ []) ∷ says "\tset_pointer  0\t0 01#back\r" 14 (0 ∷ 0 ∷ 1 ∷ [])
+    ∷ says "put 0 1 4294967295" 15 (0 ∷ 1 ∷ 4294967295 ∷ []) ∷ says "put 0 1 4294967296" 24 [] ∷ says "put 0 1 42949672950" 24 []
+    ∷ says "1 2" 24 [] ∷ says "24 2" 24 [] ∷ says "23 2" 23 (2 ∷ []) ∷ says "declare" 2 [] ∷ says "declare 1 0" 2 (1 ∷ 0 ∷ [])
+    ∷ record { text = sevens 2 64; made = true; call = 2; args = replicate 64 7 } ∷ record { text = sevens 2 65; made = true; call = 24; args = [] } ∷ []
+
+all-right : every right table ≡ true
+unfolding right table alike says opens sevens bytes blank inWord words value names counts placed callOf allowed zeros line bad given said scanned
+all-right = refl
+
+-- each call by its name, with as many arguments as it takes
+byName : ℕ → Row
+byName n = let k = getD counts n 0 in record { text = sevens n k; made = true; call = n; args = replicate k 7 }
+
+names-right : every (λ n. right (byName n)) (from 2 22) ≡ true
+unfolding right byName sevens alike bytes blank inWord words value names counts placed callOf allowed zeros line bad given said scanned
+names-right = refl

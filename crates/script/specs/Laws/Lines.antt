@@ -1,0 +1,106 @@
+-- Laws of the table of names and of the arguments, one by one.
+-- Assumes nothing.
+use mathlib.Core.Path.{_≡_, refl, sym, ap, ap₂, _∙_}
+use mathlib.Core.Bool.{Bool, true, false, _&&_, and-false, false≢true}
+use mathlib.Core.Logic.{inl}
+use mathlib.Core.List.{List, [], _∷_, map}
+use Prim.Native.Nat.{ℕ, suc, _+_, _≤_, _<_}
+use native.Mathlib.Numerals.{add-one}
+use native.Mathlib.Omega.{arith}
+use lib.Dec.{eqb, leb}
+use lib.ListN.{length, getD, set, take, drop}
+use lib.Seq.{sets, sets-eq, take-append-seam}
+use borrow.Author.Tests.{eqb-true, eq-eqb, le-leb, lt-leb, lt-ltb, le-ltb}
+use Rattle.lists.specs.Lists.{pick, every}
+use Rattle.lists.specs.Laws.Tests.{both, by-test, pick-same}
+use Rattle.lists.specs.Laws.Sets.{getD-sets-out}
+use Rattle.script.specs.declared.Line.{Line}
+use Rattle.script.specs.Script.{value, none, known, equal, placed, callOf, allowed, line, zeros, bad, given, said}
+
+-- ---- names
+
+equal-is : (w v : List ℕ) → equal w v ≡ true → w ≡ v
+equal-is [] [] e = refl
+equal-is [] (b ∷ v) e = absurd (false≢true e)
+equal-is (a ∷ w) [] e = absurd (false≢true e)
+equal-is (a ∷ w) (b ∷ v) e = let q = both (eqb a b) (equal w v) e in ap₂ _∷_ (eqb-true a b (q .0)) (equal-is w v (q .1))
+
+equal-self : (w : List ℕ) → equal w w ≡ true
+equal-self [] = refl
+equal-self (a ∷ w) = rw (eq-eqb a a refl, equal-self w)
+
+pub placed-here : (n : ℕ) (w v : List ℕ) (vs : List (List ℕ)) → w ≡ v → n ≡ placed n w (v ∷ vs)
+unfolding placed
+placed-here n w v vs e = rw (e, equal-self v)
+
+pub placed-next : (n : ℕ) (w v : List ℕ) (vs : List (List ℕ)) → (w ≡ v → ⊥) → placed n w (v ∷ vs) ≡ placed (n + 1) w vs
+unfolding placed
+placed-next n w v vs e = by-test (equal w v) (λ q. absurd (e (equal-is w v q))) (λ q. rw (add-one n, q))
+
+pub placed-below : (n : ℕ) (w : List ℕ) (vs : List (List ℕ)) → placed n w vs ≤ n + length vs
+unfolding placed
+placed-below n w [] = omega arith
+placed-below n w (v ∷ vs) = go (equal w v) (placed-below (suc n) w vs)
+  where
+    go : (t : Bool) → placed (suc n) w vs ≤ suc n + length vs → pick t n (placed (suc n) w vs) ≤ n + suc (length vs)
+    go true h = omega arith
+    go false h = omega arith
+
+-- ---- arguments
+
+-- the arguments vs after k that stand in their places
+unfoldable pub givenFrom : ℕ → ℕ → List ℕ → List ℕ → Line
+givenFrom n k args vs = pick (every known vs && leb (k + length vs) 64) (record { call = n; count = k + length vs; args = sets args k vs }) bad
+
+pub given-all : (n : ℕ) (vs : List ℕ) → givenFrom n 0 zeros vs ≡ given n vs
+unfolding givenFrom given line
+given-all n vs = let e : 0 + length vs ≡ length vs = omega arith in rw e
+
+module _ (n k : ℕ) (args : List ℕ) where
+  pub given-next : (v : ℕ) (vs : List ℕ) → v < none → givenFrom n k args (v ∷ vs) ≡ givenFrom n (k + 1) (set args k v) vs
+  unfolding givenFrom
+  given-next v vs h =
+      let e : k + suc (length vs) ≡ suc k + length vs = omega arith in
+      rw (add-one k, lt-ltb v none h, e)
+
+  pub given-none : k ≤ 64 → record { call = n; count = k; args = args } ≡ givenFrom n k args []
+  unfolding givenFrom
+  given-none h = let e : k + 0 ≡ k = omega arith in rw (e, le-leb k 64 h)
+
+  pub given-odd : (v : ℕ) (vs : List ℕ) → none ≤ v → bad ≡ givenFrom n k args (v ∷ vs)
+  unfolding givenFrom
+  given-odd v vs h = rw (le-ltb v none h)
+
+  pub given-full : (vs : List ℕ) → 64 < k → bad ≡ givenFrom n k args vs
+  unfolding givenFrom
+  given-full vs h = rw (lt-leb (k + length vs) 64 (omega arith), and-false (every known vs))
+
+-- ---- the whole line
+
+-- the arguments are read back from their places
+pub args-are : (vs : List ℕ) → length vs ≤ 64 → take (length vs) (sets zeros 0 vs) ≡ vs
+unfolding zeros
+args-are vs h = rw (sets-eq vs zeros 0 (omega arith)) (take-append-seam vs (drop (0 + length vs) zeros))
+
+first-is : (vs : List ℕ) → getD (sets zeros 0 vs) 0 0 ≡ getD vs 0 0
+unfolding zeros
+first-is [] = refl
+first-is (v ∷ vs) = getD-sets-out vs (set zeros 0 v) 1 0 0 (inl (omega arith))
+
+-- l as the arguments gave it, and whether it may stand
+pub said-is : (made : Bool) (w : List ℕ) (ws : List (List ℕ)) (l : Line) (t : Bool) → l ≡ given (callOf w) (map value ws)
+    → t ≡ allowed made (l .call) (l .count) (getD (l .args) 0 0) → pick t l bad ≡ said made (w ∷ ws)
+unfolding line given said
+said-is made w ws l t e a = go (every known vs && leb (length vs) 64) e
+  where
+    vs : List ℕ
+    vs = map value ws
+
+    may : Bool
+    may = allowed made (callOf w) (length vs) (getD vs 0 0)
+
+    go : (b : Bool) → l ≡ pick b (line (callOf w) vs) bad → pick t l bad ≡ pick may (pick b (line (callOf w) vs) bad) bad
+    go true q =
+        let h : t ≡ may = a ∙ ap (λ l. allowed made (l .call) (l .count) (getD (l .args) 0 0)) q ∙ ap (allowed made (callOf w) (length vs)) (first-is vs) in
+        rw (h, q)
+    go false q = rw q (pick-same t bad ∙ sym (pick-same may bad))

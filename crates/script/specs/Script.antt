@@ -1,0 +1,134 @@
+-- What a line of a script says. A line is a list of bytes. Its words are a call's name, or its number in document 01 (The calls), and the
+-- arguments in document 01's order, written in decimal.
+-- Assumes nothing.
+use mathlib.Core.Bool.{Bool, true, false, not, _&&_, _||_}
+use mathlib.Core.List.{List, [], _∷_, map}
+use Prim.Native.Nat.{ℕ, suc, _+_, _-_, _*_, min}
+use Prim.Native.Char.{code}
+use Prim.Native.String.{String, [] as []ᵗ, _∷_ as _∷ᵗ_}
+use lib.Dec.{eqb, ltb, leb}
+use lib.ListN.{length, getD, replicate}
+use lib.Seq.{sets}
+use Rattle.lists.specs.Lists.{pick, every}
+use Rattle.script.specs.declared.Line.{Line}
+
+-- the bytes of a text
+unfoldable pub bytes : String → List ℕ
+bytes []ᵗ = []
+bytes (c ∷ᵗ s) = code c ∷ bytes s
+
+-- ---- words
+
+-- a space, a tab or a carriage return separates words; `#` starts a comment
+unfoldable pub blank : ℕ → Bool
+blank b = eqb b 32 || eqb b 9 || eqb b 13
+
+unfoldable pub inWord : ℕ → Bool
+inWord b = not (eqb b 35 || blank b)
+
+-- a byte put in front of the first word
+abbrev pub grown : ℕ → List (List ℕ) → List (List ℕ)
+grown b [] = (b ∷ []) ∷ []
+grown b (w ∷ ws) = (b ∷ w) ∷ ws
+
+-- the words of a line, up to a comment: a byte that is no blank joins the word that the next byte begins, or is a word by itself
+unfoldable pub words : List ℕ → List (List ℕ)
+words [] = []
+words (b ∷ l) =
+    let ws = words l in
+    pick (eqb b 35) [] (pick (blank b) ws (pick (inWord (getD l 0 32)) (grown b ws) ((b ∷ []) ∷ ws)))
+
+-- the bytes in front that pass a test, up to the first that does not
+abbrev pub front : (ℕ → Bool) → List ℕ → List ℕ
+front f [] = []
+front f (b ∷ l) = let k = front f l in pick (f b) (b ∷ k) []
+
+-- the classes of bytes that the scanner tells apart: blanks, bytes of a word, bytes of a line
+unfoldable pub ofClass : ℕ → ℕ → Bool
+ofClass c b = pick (eqb c 2) (not (eqb b 10)) (pick (eqb c 0) (blank b) (inWord b))
+
+-- ---- numbers
+
+abbrev pub digit : ℕ → Bool
+digit b = leb 48 b && leb b 57
+
+-- the number v with more digits after it
+abbrev pub decimal : ℕ → List ℕ → ℕ
+decimal v [] = v
+decimal v (b ∷ l) = decimal (v * 10 + (b - 48)) l
+
+-- what a word counts for: the number that it writes, or 2^32 where it writes none below that
+abbrev pub none : ℕ
+none = 4294967296
+
+unfoldable pub value : List ℕ → ℕ
+value w = pick (ltb 0 (length w) && every digit w) (min (decimal 0 w) none) none
+
+abbrev pub known : ℕ → Bool
+known v = ltb v none
+
+-- ---- calls
+
+-- The names in the order of document 01's numbers, with `pages` in the place of make, and how many arguments each takes; declare takes
+-- any number of marks (document 01, The calls).
+abbrev pub calls : List (String × ℕ)
+calls =
+    ("pages", 1) ∷ ("declare", 0) ∷ ("new_region", 0) ∷ ("subregion", 1) ∷ ("push", 1) ∷ ("drop", 0) ∷ ("hand_back", 2) ∷ ("allocate", 3)
+    ∷ ("first", 2) ∷ ("copy", 2) ∷ ("fetch", 2) ∷ ("clear", 1) ∷ ("load", 3) ∷ ("set_pointer", 3) ∷ ("put", 3) ∷ ("get", 2)
+    ∷ ("view", 1) ∷ ("same", 2) ∷ ("about", 1) ∷ ("report", 1) ∷ ("totals", 0) ∷ ("audit", 0) ∷ ("delete", 1) ∷ []
+
+unfoldable pub names : List (List ℕ)
+names = map (λ c. bytes (c .0)) calls
+
+unfoldable pub counts : List ℕ
+counts = 0 ∷ map (λ c. c .1) calls
+
+-- two words are one
+abbrev pub equal : List ℕ → List ℕ → Bool
+equal [] [] = true
+equal [] (b ∷ v) = false
+equal (a ∷ w) [] = false
+equal (a ∷ w) (b ∷ v) = eqb a b && equal w v
+
+-- the place of a word in a list, counted from n on, or 0
+unfoldable pub placed : ℕ → List ℕ → List (List ℕ) → ℕ
+placed n w [] = 0
+placed n w (v ∷ vs) = pick (equal w v) n (placed (suc n) w vs)
+
+-- the number of the call that a word names or numbers, 1 for `pages`, 0 for none
+unfoldable pub callOf : List ℕ → ℕ
+callOf w = pick (leb 2 (value w) && ltb (value w) 24) (value w) (placed 1 w names)
+
+-- Call n may stand here with k arguments, a the first of them: `pages` with 257 at most while no store is made, any other call afterwards.
+unfoldable pub allowed : Bool → ℕ → ℕ → ℕ → Bool
+allowed made n k a =
+    pick (eqb n 0) false
+    (pick (eqb n 1) (not made && leb a 257 && eqb k 1)
+    (made && (eqb n 2 || eqb (getD counts n 0) k)))
+
+-- ---- lines
+
+unfoldable pub zeros : List ℕ
+zeros = replicate 64 0
+
+-- call n with the arguments vs, as a Line holds them
+unfoldable pub line : ℕ → List ℕ → Line
+line n vs = record { call = n; count = length vs; args = sets zeros 0 vs }
+
+-- a line that is no call
+unfoldable pub bad : Line
+bad = line 24 []
+
+-- the arguments have to be numbers, and no more than 64
+unfoldable pub given : ℕ → List ℕ → Line
+given n vs = pick (every known vs && leb (length vs) 64) (line n vs) bad
+
+-- what the words of a line say
+unfoldable pub said : Bool → List (List ℕ) → Line
+said made [] = line 0 []
+said made (w ∷ ws) =
+    let vs = map value ws in
+    pick (allowed made (callOf w) (length vs) (getD vs 0 0)) (given (callOf w) vs) bad
+
+unfoldable pub scanned : Bool → List ℕ → Line
+scanned made l = said made (words l)

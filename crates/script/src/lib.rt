@@ -1,0 +1,242 @@
+// What a line of a script says: a call of the store by name or number, and its arguments. Every function takes any bytes.
+ghost use mathlib.Core.Path.{_≡_};
+ghost use mathlib.Core.List.{[], map};
+ghost use Prim.Native.Nat.{_+_};
+ghost use lib.ListN.{length, drop};
+ghost use Rattle.script.specs.Script.{blank, ofClass, front, words, value, placed, names, callOf, allowed, line, given, scanned};
+ghost use Rattle.script.specs.Found.{NextWord, LineAt};
+
+// A line: `call` is 0 where nothing stands on it, 1 for pages, 2 to 23 for a call of document 01, and 24 where it is none of these.
+// The arguments are the first `count` of `args`, and the others are 0.
+pub struct Line {
+    pub call: u32,
+    pub count: u32,
+    pub args: [u32; 64],
+}
+
+// Where a word begins, and where it ends.
+struct Span {
+    from: usize,
+    to: usize,
+}
+
+fn blank(b: u8) -> bool
+    ensures { λ r. ⌜ r ≡ blank b ⌝ }
+{
+    if b == 32 {
+        return true;
+    }
+    if b == 9 {
+        return true;
+    }
+    b == 13
+}
+
+// Whether a byte is of class c: 0 a blank, 1 part of a word, 2 part of a line.
+fn of_class(c: u32, b: u8) -> bool
+    ensures { λ r. ⌜ r ≡ ofClass c b ⌝ }
+{
+    if c == 2 {
+        return b != 10;
+    }
+    if c == 0 {
+        return blank(b);
+    }
+    if b == 35 {
+        return false;
+    }
+    !blank(b)
+}
+
+// The first place from `at` on whose byte is not of class c, or the end.
+fn past(s: &[u8], at: usize, c: u32) -> usize
+    ensures { λ r. ⌜ r ≡ at + length (front (ofClass c) (drop at (now (s .entry)))) ⌝ }
+{
+    let mut i = at;
+    while i < s.len() {
+        if !of_class(c, s[i]) {
+            return i;
+        }
+        i += 1;
+    }
+    i
+}
+
+// The next word from `at` on. It is empty where there is none.
+fn word(s: &[u8], at: usize) -> Span
+    ensures { λ r. ⌜ NextWord (now (s .entry)) at (r .from) (r .to) ⌝ }
+{
+    let from = past(s, at, 0);
+    let to = past(s, from, 1);
+    Span { from, to }
+}
+
+// The line that begins at `at`, without its newline.
+pub fn line_at(s: &[u8], at: usize) -> &[u8]
+    ensures { λ r. ⌜ LineAt (now (s .entry)) at (now r) ⌝ }
+{
+    if s.len() <= at {
+        return &s[0..0];
+    }
+    let end = past(s, at, 2);
+    &s[at..end]
+}
+
+// The number that a word writes, or 2^32 where it writes none.
+fn number(w: &[u8]) -> u64
+    ensures { λ r. ⌜ r ≡ value (now (w .entry)) ⌝ }
+{
+    if w.len() == 0 {
+        return 4294967296;
+    }
+    let mut v: u64 = 0;
+    let mut i = 0;
+    while i < w.len() {
+        let b = w[i];
+        if b < 48 {
+            return 4294967296;
+        }
+        if 57 < b {
+            return 4294967296;
+        }
+        v = v * 10 + (b as u64 - 48);
+        if 4294967295 < v {
+            return 4294967296;
+        }
+        i += 1;
+    }
+    v
+}
+
+// The place of w among the words of a line, from 1 on; 0 where it is none of them.
+fn place_of(w: &[u8], s: &[u8]) -> usize
+    ensures { λ r. ⌜ r ≡ placed 1 (now (w .entry)) (words (now (s .entry))) ⌝ }
+{
+    let mut n: usize = 1;
+    let mut i = 0;
+    loop {
+        let p = word(s, i);
+        let from = p.from;
+        let to = p.to;
+        if to <= from {
+            return 0;
+        }
+        if check::same(w, &s[from..to]) {
+            return n;
+        }
+        n += 1;
+        i = to;
+    }
+}
+
+// The same among the names of the calls.
+fn named(w: &[u8]) -> u32
+    ensures { λ r. ⌜ r ≡ placed 1 (now (w .entry)) names ⌝ }
+{
+    place_of(
+        w,
+        b"pages declare new_region subregion push drop hand_back allocate first copy fetch clear load set_pointer put get view same about report totals audit delete",
+    ) as u32
+}
+
+// The number of the call that a word names or numbers, 1 for pages, 0 for none.
+fn call_of(w: &[u8]) -> u32
+    ensures { λ r. ⌜ r ≡ callOf (now (w .entry)) ⌝ }
+{
+    let v = number(w);
+    if v < 2 {
+        return named(w);
+    }
+    if v < 24 { v as u32 } else { named(w) }
+}
+
+// Whether call n may stand here with k arguments, the first of them a: pages once, and no call before it.
+fn allowed(made: bool, n: u32, k: u32, a: u32) -> bool
+    ensures { λ r. ⌜ r ≡ allowed made n k a ⌝ }
+{
+    if n == 0 {
+        return false;
+    }
+    if n == 1 {
+        if made {
+            return false;
+        }
+        if a <= 257 {
+            return k == 1;
+        }
+        return false;
+    }
+    if made {
+        if n == 2 {
+            return true;
+        }
+        // how many each call takes, by its number
+        let takes = cells::byte(
+            b"\x00\x01\x00\x00\x01\x01\x00\x02\x03\x02\x02\x02\x01\x03\x03\x03\x02\x01\x02\x01\x01\x00\x00\x01",
+            n as usize,
+        );
+        return takes == k;
+    }
+    false
+}
+
+// A line with no arguments.
+fn bare(call: u32) -> Line
+    ensures { λ r. ⌜ r ≡ line call [] ⌝ }
+{
+    Line {
+        call,
+        count: 0,
+        args: [0; 64],
+    }
+}
+
+// Call n with the words from `at` on as its arguments: 64 numbers at most.
+fn arguments(s: &[u8], at: usize, n: u32) -> Line
+    ensures { λ r. ⌜ r ≡ given n (map value (words (drop at (now (s .entry))))) ⌝ }
+{
+    let mut args = [0u32; 64];
+    let mut k: u32 = 0;
+    let mut i = at;
+    while k < 65 {
+        let p = word(s, i);
+        let from = p.from;
+        let to = p.to;
+        if to <= from {
+            return Line {
+                call: n,
+                count: k,
+                args,
+            };
+        }
+        let v = number(&s[from..to]);
+        if 4294967296 <= v {
+            return bare(24);
+        }
+        let more = cells::put64(args, k as usize, v as u32);
+        args = more;
+        k += 1;
+        i = to;
+    }
+    bare(24)
+}
+
+// What a line says, where `made` tells whether pages came before it.
+pub fn scan(s: &[u8], made: bool) -> Line
+    ensures { λ r. ⌜ r ≡ scanned made (now (s .entry)) ⌝ }
+{
+    let p = word(s, 0);
+    let from = p.from;
+    let to = p.to;
+    if to <= from {
+        return bare(0);
+    }
+    let n = call_of(&s[from..to]);
+    let l = arguments(s, to, n);
+    let args = l.args;
+    if allowed(made, l.call, l.count, args[0]) {
+        l
+    } else {
+        bare(24)
+    }
+}

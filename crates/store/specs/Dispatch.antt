@@ -1,0 +1,30 @@
+-- Calls by their numbers in document 01.
+-- Assumes nothing.
+use mathlib.Core.Path.{_≡_}
+use mathlib.Core.Bool.{Bool, true, false, _&&_}
+use mathlib.Core.List.{List, [], _∷_}
+use Prim.Native.Nat.{ℕ, _-_}
+use lib.Dec.{leb}
+use lib.ListN.{getD}
+use Rattle.model.specs.Model.{Call, declare, newRegion, subregion, push, dropFrame, handBack, allocate, first, copy, fetch, clear, load, setPointer, put, get, view, same, about, report, totals, audit, delete, refusedBy}
+use Rattle.state.specs.declared.Reply.{Reply}
+use Rattle.outcomes.specs.Store.{Store}
+use Rattle.outcomes.specs.Outcome.{Outcome, answerOf}
+
+-- the call numbered n, from 2 on in document 01's order, with its arguments from the left; ms are declare's marks
+unfoldable pub decoded : ℕ → ℕ → ℕ → ℕ → List ℕ → Call
+decoded n a b c ms =
+    getD (declare ms ∷ newRegion ∷ subregion a ∷ push a ∷ dropFrame ∷ handBack a b ∷ allocate a b c ∷ first a b ∷ copy a b ∷ fetch a b ∷ clear a ∷ load a b c ∷ setPointer a b c ∷ put a b c ∷ get a b ∷ view a ∷ same a b ∷ about a ∷ report a ∷ totals ∷ audit ∷ delete a ∷ [])
+    (n - 2) totals
+
+-- the outcome of that call; its reply has no place for view's part, which is some list here and [] for every other call
+abbrev pub OutcomeOf : Call → Store → Reply → Store → Type 0
+OutcomeOf c S r T = (part : List ℕ) × Outcome c S (answerOf r part) T
+
+-- a number that is no call's is answered 24 and zeros, and nothing changes
+abbrev pub DispatchedBy : Bool → Call → Store → Reply → Store → Type 0
+DispatchedBy true c S r T = OutcomeOf c S r T
+DispatchedBy false c S r T = (answerOf r [] ≡ refusedBy 24) × (T ≡ S)
+
+unfoldable pub Dispatched : ℕ → ℕ → ℕ → ℕ → List ℕ → Store → Reply → Store → Type 0
+Dispatched n a b c ms S r T = DispatchedBy (leb 2 n && leb n 23) (decoded n a b c ms) S r T

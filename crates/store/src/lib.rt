@@ -1,0 +1,73 @@
+// The region store: what a user imports. Every call of document 01 under its name, and `call`, which takes the call's number.
+pub use calls_audit::audit;
+pub use calls_delete::delete;
+pub use calls_regions::allocate;
+pub use calls_regions::declare;
+pub use calls_regions::make;
+pub use calls_regions::new_region;
+pub use calls_regions::subregion;
+pub use calls_report::report;
+pub use calls_slots::about;
+pub use calls_slots::clear;
+pub use calls_slots::copy;
+pub use calls_slots::fetch;
+pub use calls_slots::first;
+pub use calls_slots::same;
+pub use calls_slots::totals;
+pub use calls_stack::drop;
+pub use calls_stack::hand_back;
+pub use calls_stack::push;
+pub use calls_words::get;
+pub use calls_words::load;
+pub use calls_words::put;
+pub use calls_words::set_pointer;
+pub use calls_words::view;
+pub use calls_words::view_refusal;
+pub use state::Done;
+pub use state::Reply;
+pub use state::State;
+ghost use mathlib.Core.Path.{_≡_};
+ghost use Rattle.outcomes.specs.Outcome.{store};
+ghost use Rattle.store.specs.Dispatch.{Dispatched};
+
+// A call that leaves the state.
+fn unchanged(s: State, reply: Reply) -> Done
+    ensures { λ r. ⌜ (r .state ≡ s) × (r .reply ≡ reply) ⌝ }
+{
+    Done {
+        state: s,
+        reply: reply,
+    }
+}
+
+// The call numbered `number` in document 01, 2 to 23, with its arguments from the left; what it does not take is ignored, and only declare takes marks.
+// A number that is no call's is answered 24. View's part is had from `view`.
+pub fn call(s: State, heap: &mut [u32], number: u32, a: u32, b: u32, c: u32, marks: &[u32]) -> Done
+    ensures { λ r. ⌜ Dispatched number a b c (now (marks .entry)) (store s (now (heap .entry))) (r .reply) (store (r .state) (now (heap .exit))) ⌝ }
+{
+    match number {
+        2 => declare(s, heap, marks),
+        3 => new_region(s, heap),
+        4 => subregion(s, heap, a),
+        5 => push(s, heap, a),
+        6 => drop(s, heap),
+        7 => hand_back(s, heap, a, b),
+        8 => allocate(s, heap, a, b, c),
+        9 => first(s, heap, a, b),
+        10 => copy(s, heap, a, b),
+        11 => fetch(s, heap, a, b),
+        12 => clear(s, heap, a),
+        13 => load(s, heap, a, b, c),
+        14 => set_pointer(s, heap, a, b, c),
+        15 => unchanged(s, put(s, heap, a, b, c)),
+        16 => unchanged(s, get(s, heap, a, b)),
+        17 => unchanged(s, checks::refused(view_refusal(s, heap, a))),
+        18 => unchanged(s, same(s, heap, a, b)),
+        19 => unchanged(s, about(s, heap, a)),
+        20 => unchanged(s, report(s, heap, a)),
+        21 => unchanged(s, totals(s)),
+        22 => unchanged(s, audit(s, heap)),
+        23 => delete(s, heap, a),
+        _ => unchanged(s, checks::refused(24)),
+    }
+}
