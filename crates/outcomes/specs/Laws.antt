@@ -1,6 +1,7 @@
 -- Theorems on the outcomes, proved: nothing here has to be believed.
 pub mod Decided
 pub mod Examples
+pub mod Cases
 pub mod Steps
 pub mod Passed
 pub mod Refused

@@ -1,0 +1,62 @@
+-- What calls refuse and leave, computed on the memory `small` of Examples. Each case is false of an edit of the calls that must be refused, which it names.
+-- Assumes nothing.
+use mathlib.Core.Path.{_≡_, refl}
+use mathlib.Core.Bool.{Bool, true}
+use mathlib.Core.List.{List, [], _∷_}
+use Prim.Native.Nat.{ℕ, _-_}
+use lib.Dec.{eqb}
+use lib.ListN.{length, take, drop}
+use Rattle.lists.specs.Lists.{bit, every}
+use Rattle.model.specs.Model.{push, fetch, load, put, get, view}
+use Rattle.frames.specs.Frames.{frameCount, topFrame, widthAt, slotAt, putSlot, pushed, uncounts, popped}
+use Rattle.kinds.specs.Kinds.{kindCount, sizeOf, markAt}
+use Rattle.regions.specs.Regions.{nameAt, nameOf, entryOf, parentAt, oldestAt, countAt, moved, rolled, withCounts}
+use Rattle.pages.specs.Pages.{pageCount, ownerAt, ownerIn, ownerOf, pagesOf, wrongLength}
+use Rattle.objects.specs.Objects.{kindOf, wordCount, markOf, wordAt}
+use Rattle.outcomes.specs.Store.{Store, frames, kinds, regions, pages, slot, slotTargets, breaks}
+use Rattle.outcomes.specs.Outcome.{withFrames, badLength, noFrame, oneFrame, lacks, lacksBeneath, noWord, isData, allData, checks, refusal, fillSlot, writeWord, recounted, countedIn, popFrame, pointed}
+use Rattle.outcomes.specs.Examples.{small}
+
+-- a third frame of two slots on top, the first leading to the object at 68; and the same with two frames counted
+abbrev three : Store
+three = fillSlot (withFrames small (pushed (frames small) 2)) 0 68
+
+abbrev counted : Store
+counted = let f = frames three in withFrames three (record { standing = f .standing; counted = 2; widths = f .widths; slots = f .slots })
+
+-- what is computed, and what it has to be
+abbrev cases : List (ℕ × ℕ)
+cases =
+    -- first_of_entry_0, copy_of_itself, clear_leaves_a_pointer, same_says_no
+    (slot (fillSlot three 1 (oldestAt (regions three) (entryOf (regions three) 5))) 1, 65)
+    ∷ (slot (fillSlot three 1 (slot three 0)) 1, 68)
+    ∷ (slot (fillSlot three 0 0) 0, 0)
+    ∷ (bit (eqb (slot three 0) (slot three 0)), 1)
+    -- fetch_tests_one_frame: the frame beneath has one slot, the top two
+    ∷ (refusal three (fetch 0 1), 0)
+    ∷ (refusal three (fetch 1 0), 9)
+    -- about_of_a_slot_number, totals_of_region_1, push_accepts_nine
+    ∷ (kindOf (three .heap) (slot three 0), 2)
+    ∷ (pagesOf (pages three) 0, 0)
+    ∷ (refusal three (push 9), 8)
+    -- new_top_stays_counted: both pointers of the frame then on top leave; wrong_frame_leaves: only one does
+    ∷ (countAt (regions (popFrame small)) 0, 1)
+    ∷ (countAt (regions (popFrame small)) 2, 1)
+    ∷ (countAt (regions (popFrame counted)) 2, 1)
+    -- hand_back_before_drop, hand_back_of_another_slot
+    ∷ (slotAt (frames (fillSlot (popFrame three) 0 (slot three 0))) 1 0, 68)
+    ∷ (slotAt (frames (fillSlot (popFrame three) 0 (slot three 1))) 1 0, 0)
+    -- set pointer: the old pointer leaves, one into the own region is not counted, a word marked 3 never is
+    ∷ (countAt (regions (pointed small 65 0 68)) 0, 1)
+    ∷ (countAt (regions (pointed small 65 0 68)) 2, 2)
+    ∷ (countAt (regions (pointed small 68 1 1)) 0, 2)
+    -- a pointer word is no data, a load's target is tested, and a word is read at its own place
+    ∷ (refusal three (put 0 0 9), 16)
+    ∷ (refusal three (load 0 0 7), 9)
+    ∷ (refusal three (view 0), 16)
+    ∷ (wordAt (three .heap) 65 1, 42)
+    ∷ []
+
+pub computed : every (λ p. eqb (p .0) (p .1)) cases ≡ true
+unfolding frameCount topFrame widthAt slotAt putSlot pushed uncounts popped kindCount sizeOf markAt nameAt nameOf entryOf parentAt oldestAt countAt moved rolled withCounts pageCount ownerAt ownerIn ownerOf pagesOf wrongLength kindOf wordCount markOf wordAt slot slotTargets breaks badLength noFrame oneFrame lacks lacksBeneath noWord isData allData checks refusal fillSlot writeWord recounted countedIn popFrame pointed
+computed = refl
