@@ -1,2 +1,3 @@
 -- Laws of the pointers counted, proved.
 pub mod Into
+pub mod Cases

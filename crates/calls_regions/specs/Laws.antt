@@ -1,0 +1,2 @@
+-- The calls that make, computed.
+pub mod Cases
