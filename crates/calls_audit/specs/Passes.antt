@@ -1,27 +1,22 @@
 -- The audit's test of the stored counts, and all its tests together, as code runs them (document 01, Audit).
 -- Assumes nothing.
 use mathlib.Core.Bool.{Bool, _&&_, _||_}
-use mathlib.Core.List.{List, [], _++_, map}
+use mathlib.Core.List.{List, [], _++_}
 use Prim.Native.Nat.{ℕ}
 use lib.Dec.{eqb}
 use lib.ListN.{length, getD}
 use Rattle.lists.specs.Lists.{pick, every, joined, upTo}
-use Rattle.frames.specs.declared.Frames.{Frames}
-use Rattle.frames.specs.Frames.{widthAt, slotAt}
 use Rattle.kinds.specs.declared.Kinds.{Kinds}
 use Rattle.regions.specs.declared.Regions.{Regions}
 use Rattle.regions.specs.Regions.{nameAt, moved}
 use Rattle.pages.specs.declared.Pages.{Pages}
-use Rattle.pages.specs.Pages.{pageCount, ownerAt, ownerIn}
+use Rattle.pages.specs.Pages.{pageCount, ownerAt}
 use Rattle.objects.specs.Objects.{freeWordsOn, outOf}
 use Rattle.state.specs.declared.State.{State}
+use Rattle.checks.specs.Checks.{slotTags}
 use Rattle.audit_state.specs.Fits.{stateFits}
 use Rattle.audit_heap.specs.Heap.{pagesFit, entriesOwn, framesLead}
 use Rattle.audit_words.specs.Words.{pagesHold}
-
--- the tags of the regions that the slots of frame i lead into, by the pages' owners
-unfoldable pub slotTags : Frames → List ℕ → ℕ → List ℕ
-slotTags f owners i = map (λ s. ownerIn owners (slotAt f i s)) (upTo (widthAt f i))
 
 -- the tags of the regions whose outside pointers stand in words of page j
 unfoldable pub wordTags : Kinds → List ℕ → Pages → ℕ → List ℕ

@@ -12,23 +12,8 @@ ghost use Rattle.model.specs.Model.{audit};
 ghost use Rattle.regions.specs.Regions.{moved};
 ghost use Rattle.pages.specs.Pages.{pageCount};
 ghost use Rattle.outcomes.specs.Outcome.{Outcome, answerOf, store};
-ghost use Rattle.calls_audit.specs.Passes.{slotTags, wordTags, isZero, allZero, countsFit, passes};
-
-// The counts without the slots of frame i.
-fn leave_frame(f: Frames, owners: &[u8], counts: [u32; 64], i: u32) -> [u32; 64]
-    ensures { λ r. ⌜ r ≡ moved counts [] (slotTags f (now (owners .entry)) i) ⌝ }
-{
-    let n = frames::width_at(f, i);
-    let mut c = counts;
-    let mut s: u32 = 0;
-    while s < n {
-        let t = pages::owner_of(owners, frames::slot_at(f, i, s));
-        let d = regions::leave(c, t);
-        c = d;
-        s += 1;
-    }
-    c
-}
+ghost use Rattle.checks.specs.Checks.{slotTags};
+ghost use Rattle.calls_audit.specs.Passes.{wordTags, isZero, allZero, countsFit, passes};
 
 // The counts without the slots of the lowest n frames.
 fn leave_frames(f: Frames, owners: &[u8], counts: [u32; 64], n: u32) -> [u32; 64]
@@ -37,7 +22,7 @@ fn leave_frames(f: Frames, owners: &[u8], counts: [u32; 64], n: u32) -> [u32; 64
     let mut c = counts;
     let mut i: u32 = 0;
     while i < n {
-        let d = leave_frame(f, owners, c, i);
+        let d = checks::leave_frame(f, owners, c, i);
         c = d;
         i += 1;
     }

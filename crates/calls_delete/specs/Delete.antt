@@ -1,7 +1,7 @@
 -- What delete tests and leaves (document 01, Delete), over the parts of the state that it is read from, and by a region's entry e and tag t.
 -- Assumes nothing.
 use mathlib.Core.Bool.{Bool, not, _||_}
-use mathlib.Core.List.{List, [], _∷_, map}
+use mathlib.Core.List.{List, [], _∷_}
 use Prim.Native.Nat.{ℕ, _-_}
 use lib.Dec.{eqb}
 use Rattle.lists.specs.Lists.{any, keep, joined, from, upTo}
@@ -14,6 +14,7 @@ use Rattle.pages.specs.declared.Pages.{Pages}
 use Rattle.pages.specs.Pages.{pageCount, ownerAt, ownerIn, freed}
 use Rattle.objects.specs.Objects.{freeWordsOn, outOf}
 use Rattle.state.specs.declared.State.{State}
+use Rattle.checks.specs.Checks.{slotTags}
 
 -- some slot of frame i leads into the region, by the pages' owners; some slot of an uncounted frame does
 unfoldable pub leads : Frames → List ℕ → ℕ → ℕ → Bool
@@ -28,12 +29,9 @@ deleteTests s n e t =
     eqb n 1 ⇒ 3 ∷ not (eqb (subregionsOf (s .regions) t) 0) ⇒ 18
     ∷ (not (eqb (countAt (s .regions) e) 0) || looked (s .frames) (s .pages .owners) t) ⇒ 19 ∷ []
 
--- the regions that the slots of frame i lead into; and those of the frames that are counted once m is raised
-unfoldable pub targets : Frames → List ℕ → ℕ → List ℕ
-targets f owners i = map (λ s. ownerIn owners (slotAt f i s)) (upTo (widthAt f i))
-
+-- the regions that the slots of the frames lead into that are counted once m is raised
 unfoldable pub newTargets : Frames → List ℕ → List ℕ
-newTargets f owners = joined (targets f owners) (from (f .counted) (frameCount f - 1 - f .counted))
+newTargets f owners = joined (slotTags f owners) (from (f .counted) (frameCount f - 1 - f .counted))
 
 -- what the words marked 1 hold on the region's pages among the first n; and on all its pages
 unfoldable pub ownWordsTo : Kinds → List ℕ → Pages → ℕ → ℕ → List ℕ

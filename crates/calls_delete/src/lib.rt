@@ -13,7 +13,7 @@ ghost use Rattle.pages.specs.Pages.{freed, pagesOf};
 ghost use Rattle.objects.specs.Objects.{outOf};
 ghost use Rattle.outcomes.specs.Outcome.{Outcome, answerOf, store};
 ghost use Rattle.checks.specs.Checks.{orElse, regionTests};
-ghost use Rattle.calls_delete.specs.Delete.{looked, deleteTests, targets, newTargets, ownWords, emptied};
+ghost use Rattle.calls_delete.specs.Delete.{looked, deleteTests, newTargets, ownWords, emptied};
 
 // Whether some slot of an uncounted frame leads into the region with that tag. The first that does ends the look.
 fn look(f: Frames, owners: &[u8], tag: u32) -> bool
@@ -95,22 +95,7 @@ fn give_pages(k: Kinds, heap: &[u32], p: Pages, counts: [u32; 64], tag: u32) -> 
     }
 }
 
-// The counts with the pointers in the slots of frame i.
-fn enter_frame(f: Frames, owners: &[u8], counts: [u32; 64], i: u32) -> [u32; 64]
-    ensures { λ r. ⌜ r ≡ moved counts (targets f (now (owners .entry)) i) [] ⌝ }
-{
-    let n = frames::width_at(f, i);
-    let mut c = counts;
-    let mut k: u32 = 0;
-    while k < n {
-        let d = regions::enter(c, pages::owner_of(owners, frames::slot_at(f, i, k)));
-        c = d;
-        k += 1;
-    }
-    c
-}
-
-// The same of the frames that are counted once m is raised.
+// The counts with the pointers of the frames that are counted once m is raised.
 fn enter_frames(f: Frames, owners: &[u8], counts: [u32; 64]) -> [u32; 64]
     ensures { λ r. ⌜ r ≡ moved counts (newTargets f (now (owners .entry))) [] ⌝ }
 {
@@ -118,7 +103,7 @@ fn enter_frames(f: Frames, owners: &[u8], counts: [u32; 64]) -> [u32; 64]
     let mut c = counts;
     let mut i = f.counted;
     while i < n {
-        let d = enter_frame(f, owners, c, i);
+        let d = checks::enter_frame(f, owners, c, i);
         c = d;
         i += 1;
     }

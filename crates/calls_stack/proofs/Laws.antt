@@ -14,12 +14,13 @@ use Rattle.model.specs.Calls.{reason}
 use Rattle.model.specs.Laws.Passed.{all-passed}
 use Rattle.frames.specs.declared.Frames.{Frames}
 use Rattle.pages.specs.declared.Pages.{Pages}
+use Rattle.pages.specs.Pages.{ownerOf}
 use Rattle.state.specs.declared.State.{State}
 use Rattle.outcomes.specs.Store.{Store, frames, pages, slotTargets}
 use Rattle.outcomes.specs.Outcome.{store, refusal, checks, badLength, noFrame, popFrame, recounted, fillSlot}
-use Rattle.checks.specs.Checks.{beneathTests, withSlot}
+use Rattle.checks.specs.Checks.{beneathTests, withSlot, slotTags}
 use Rattle.checks.specs.Laws.Tests.{slot-beneath, or-zero}
-use Rattle.calls_stack.specs.Stack.{pushTests, dropTests, targets, uncountedTop, poppedState}
+use Rattle.calls_stack.specs.Stack.{pushTests, dropTests, uncountedTop, poppedState}
 
 module _ (S : Store) where
   pub push-tests : (w : ℕ) → refusal S (push w) ≡ reason (pushTests (pages S) (length (S .heap)) (frames S) w)
@@ -42,9 +43,9 @@ push-small p n f w e =
     (omega (arith, ltb-false 8 w (neither (eqb w 0) (ltb 8 w) (t .1 .0) .1)), leb-false 32 (f .standing) (t .1 .1 .0))
 
 pub pop-is : (s : State) (heap : List ℕ) → store (poppedState s) heap ≡ popFrame (store s heap)
-unfolding poppedState uncountedTop targets popFrame recounted slotTargets
+unfolding poppedState uncountedTop slotTags popFrame recounted slotTargets ownerOf
 pop-is s heap = refl
 
 pub back-is : (s : State) (heap : List ℕ) (i v : ℕ) → store (withSlot (poppedState s) i v) heap ≡ fillSlot (popFrame (store s heap)) i v
-unfolding withSlot fillSlot poppedState uncountedTop targets popFrame recounted slotTargets
+unfolding withSlot fillSlot poppedState uncountedTop slotTags popFrame recounted slotTargets ownerOf
 back-is s heap i v = refl

@@ -10,7 +10,7 @@ ghost use Rattle.model.specs.Model.{push, dropFrame, handBack};
 ghost use Rattle.model.specs.Calls.{reason};
 ghost use Rattle.regions.specs.Regions.{moved};
 ghost use Rattle.outcomes.specs.Outcome.{Outcome, answerOf, store};
-ghost use Rattle.calls_stack.specs.Stack.{pushTests, dropTests, targets, uncountedTop, poppedState};
+ghost use Rattle.calls_stack.specs.Stack.{pushTests, dropTests, uncountedTop, poppedState};
 
 fn push_refusal(p: Pages, n: usize, f: Frames, slots: u32) -> u32
     ensures { λ r. ⌜ r ≡ reason (pushTests p n f slots) ⌝ }
@@ -49,27 +49,12 @@ pub fn push(s: State, heap: &[u32], slots: u32) -> Done
     }
 }
 
-// The counts without the pointers of frame i.
-fn leave_frame(counts: [u32; 64], p: Pages, f: Frames, i: u32) -> [u32; 64]
-    ensures { λ r. ⌜ r ≡ moved counts [] (targets p f i) ⌝ }
-{
-    let w = frames::width_at(f, i);
-    let mut c = counts;
-    let mut k: u32 = 0;
-    while k < w {
-        let d = regions::leave(c, checks::tag_of(p, frames::slot_at(f, i, k)));
-        c = d;
-        k += 1;
-    }
-    c
-}
-
 fn uncounted_top(g: Regions, p: Pages, f: Frames) -> Regions
     ensures { λ r. ⌜ r ≡ uncountedTop g p f ⌝ }
 {
     if frames::uncounts(f) {
         let c = g.counts;
-        let d = leave_frame(c, p, f, cells::less(frames::top(f)));
+        let d = checks::leave_frame(f, &p.owners, c, cells::less(frames::top(f)));
         return regions::with_counts(g, d);
     }
     g

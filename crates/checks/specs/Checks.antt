@@ -1,15 +1,15 @@
--- The tests that several calls begin with, in document 01's order, over the parts of the state that they read.
+-- The tests that several calls begin with, in document 01's order, and the pointers of a frame, over the parts of the state that they read.
 -- Assumes nothing.
 use mathlib.Core.Bool.{Bool, not, _||_}
-use mathlib.Core.List.{List, [], _∷_}
+use mathlib.Core.List.{List, [], _∷_, map}
 use Prim.Native.Nat.{ℕ, _-_}
 use lib.Dec.{eqb, ltb, leb}
-use Rattle.lists.specs.Lists.{pick}
+use Rattle.lists.specs.Lists.{pick, upTo}
 use Rattle.model.specs.Calls.{_⇒_}
 use Rattle.frames.specs.declared.Frames.{Frames}
-use Rattle.frames.specs.Frames.{topFrame, widthAt, putSlot}
+use Rattle.frames.specs.Frames.{topFrame, widthAt, slotAt, putSlot}
 use Rattle.pages.specs.declared.Pages.{Pages}
-use Rattle.pages.specs.Pages.{wrongLength}
+use Rattle.pages.specs.Pages.{wrongLength, ownerIn}
 use Rattle.state.specs.declared.State.{State}
 
 -- the first number, or the second where the first accepts
@@ -31,3 +31,7 @@ regionTests p n e = wrongLength p n ⇒ 21 ∷ not (ltb e 64) ⇒ 2 ∷ []
 -- the state with slot s of the top frame set to v
 unfoldable pub withSlot : State → ℕ → ℕ → State
 withSlot s i v = record { frames = putSlot (s .frames) (topFrame (s .frames)) i v; kinds = s .kinds; regions = s .regions; pages = s .pages }
+
+-- the tags of the regions that the slots of frame i lead into, by the pages' owners
+unfoldable pub slotTags : Frames → List ℕ → ℕ → List ℕ
+slotTags f owners i = map (λ s. ownerIn owners (slotAt f i s)) (upTo (widthAt f i))

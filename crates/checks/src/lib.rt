@@ -1,4 +1,4 @@
-// Replies, and the tests that several calls begin with.
+// Replies, the tests that several calls begin with, and the counts that the pointers of a frame enter or leave.
 use frames::Frames;
 use pages::Pages;
 use state::Done;
@@ -8,11 +8,12 @@ ghost use mathlib.Core.Path.{_≡_};
 ghost use mathlib.Core.List.{[], _∷_};
 ghost use Prim.Native.Nat.{_-_};
 ghost use Rattle.frames.specs.Frames.{topFrame, slotAt};
+ghost use Rattle.regions.specs.Regions.{moved};
 ghost use Rattle.pages.specs.Pages.{ownerOf};
 ghost use Rattle.model.specs.Model.{gives, refusedBy};
 ghost use Rattle.model.specs.Calls.{reason};
 ghost use Rattle.outcomes.specs.Outcome.{answerOf};
-ghost use Rattle.checks.specs.Checks.{topTests, beneathTests, regionTests, withSlot};
+ghost use Rattle.checks.specs.Checks.{topTests, beneathTests, regionTests, withSlot, slotTags};
 
 pub fn refused(n: u32) -> Reply
     ensures { λ r. ⌜ answerOf r [] ≡ refusedBy n ⌝ }
@@ -138,4 +139,33 @@ pub fn filled(s: State, i: u32, v: u32) -> Done
         state: with_slot(s, i, v),
         reply: gives(0, 0, 0, 0),
     }
+}
+
+// The counts with the pointers of frame i, and without them.
+pub fn enter_frame(f: Frames, owners: &[u8], counts: [u32; 64], i: u32) -> [u32; 64]
+    ensures { λ r. ⌜ r ≡ moved counts (slotTags f (now (owners .entry)) i) [] ⌝ }
+{
+    let w = frames::width_at(f, i);
+    let mut c = counts;
+    let mut k: u32 = 0;
+    while k < w {
+        let d = regions::enter(c, pages::owner_of(owners, frames::slot_at(f, i, k)));
+        c = d;
+        k += 1;
+    }
+    c
+}
+
+pub fn leave_frame(f: Frames, owners: &[u8], counts: [u32; 64], i: u32) -> [u32; 64]
+    ensures { λ r. ⌜ r ≡ moved counts [] (slotTags f (now (owners .entry)) i) ⌝ }
+{
+    let n = frames::width_at(f, i);
+    let mut c = counts;
+    let mut k: u32 = 0;
+    while k < n {
+        let d = regions::leave(c, pages::owner_of(owners, frames::slot_at(f, i, k)));
+        c = d;
+        k += 1;
+    }
+    c
 }

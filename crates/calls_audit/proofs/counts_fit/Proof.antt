@@ -4,7 +4,8 @@ use borrow.Author.Needs.{needs}
 use Rattle.lists.specs.Lists.{joined, upTo}
 use Rattle.regions.specs.Laws.Counts.{moved-moved}
 use Rattle.pages.specs.Pages.{pageCount}
-use Rattle.calls_audit.specs.Passes.{slotTags, wordTags, countedTags, allZero, countsFit}
+use Rattle.checks.specs.Checks.{slotTags}
+use Rattle.calls_audit.specs.Passes.{wordTags, countedTags, allZero, countsFit}
 use Rattle.calls_audit.proofs.counts_fit.Statement.{statement}
 use Rattle.calls_audit.proofs.counts_fit.Tie as tie
 

@@ -7,7 +7,7 @@ use Rattle.lists.specs.Lists.{joined, upTo}
 use Rattle.lists.specs.Laws.UpTo.{joined-next}
 use Rattle.regions.specs.Regions.{moved}
 use Rattle.regions.specs.Laws.Counts.{fits-counts, moved-none, moved-moved}
-use Rattle.calls_audit.specs.Passes.{slotTags}
+use Rattle.checks.specs.Checks.{slotTags}
 use Rattle.calls_audit.proofs.leave_frames.Statement.{statement}
 use Rattle.calls_audit.proofs.leave_frames.Tie as tie
 

@@ -33,7 +33,8 @@ use Rattle.outcomes.specs.Laws.Pointers.{Ordered, Known, valueAt, frames-length
 use Rattle.audit_state.specs.Fits.{widthsFit}
 use Rattle.audit_heap.specs.Heap.{known, frameLeads, framesLead}
 use Rattle.audit_words.specs.Words.{wordHolds, objectHolds, objectsHold, pageHolds, pagesHold}
-use Rattle.calls_audit.specs.Passes.{slotTags, wordTags, countedTags, isZero, allZero, countsFit}
+use Rattle.checks.specs.Checks.{slotTags}
+use Rattle.calls_audit.specs.Passes.{wordTags, countedTags, isZero, allZero, countsFit}
 use Rattle.calls_audit.specs.Laws.Heap.{known-same}
 
 eqb-iff : (a b c d : ℕ) → (a ≡ b → c ≡ d) → (c ≡ d → a ≡ b) → eqb a b ≡ eqb c d

@@ -7,14 +7,15 @@ use Rattle.lists.specs.Lists.{joined, from}
 use Rattle.frames.specs.Frames.{frameCount}
 use Rattle.regions.specs.Regions.{moved}
 use Rattle.regions.specs.Laws.Counts.{Counts, fits-counts, moved-counts, moved-none, moved-moved}
-use Rattle.calls_delete.specs.Delete.{targets, newTargets}
+use Rattle.checks.specs.Checks.{slotTags}
+use Rattle.calls_delete.specs.Delete.{newTargets}
 use Rattle.calls_delete.specs.Laws.Delete.{from-next, from-end}
 use Rattle.calls_delete.proofs.enter_frames.Statement.{statement}
 use Rattle.calls_delete.proofs.enter_frames.Tie as tie
 
 -- when the frames left enter too, all have entered
 abbrev Inv-loop : tie.InvT-loop
-Inv-loop f owners n c₀ i₀ c i = (n ≡ frameCount f - 1) × Counts c × (moved c (joined (targets f owners) (from i (frameCount f - 1 - i))) [] ≡ moved c₀ (newTargets f owners) [])
+Inv-loop f owners n c₀ i₀ c i = (n ≡ frameCount f - 1) × Counts c × (moved c (joined (slotTags f owners) (from i (frameCount f - 1 - i))) [] ≡ moved c₀ (newTargets f owners) [])
 
 abbrev μ-loop : tie.MeasureT-loop
 μ-loop f owners n c₀ i₀ c i = n - i
@@ -29,7 +30,7 @@ loop-again : tie.Need-loop-again Inv-loop μ-loop
 loop-again c =
     let l = c .before .before in
     let a = l .before .before .before .before .args in
-    let g : ℕ → List ℕ = targets (a .f) (a .owners .now) in
+    let g : ℕ → List ℕ = slotTags (a .f) (a .owners .now) in
     let n = frameCount (a .f) - 1 in
     let i = l .loop .i in (
       l .loop .inv .0,

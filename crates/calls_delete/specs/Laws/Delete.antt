@@ -16,7 +16,8 @@ use Rattle.outcomes.specs.Store.{Store, regions, pages, ledInto, slotTargets}
 use Rattle.outcomes.specs.Outcome.{store, checks, refusal, deleted, recounted, outgoing, newlyCounted}
 use Rattle.checks.specs.Checks.{orElse, regionTests}
 use Rattle.checks.specs.Laws.Tests.{one-region}
-use Rattle.calls_delete.specs.Delete.{leads, looked, deleteTests, targets, newTargets, ownWordsTo, ownWords, emptied}
+use Rattle.checks.specs.Checks.{slotTags}
+use Rattle.calls_delete.specs.Delete.{leads, looked, deleteTests, newTargets, ownWordsTo, ownWords, emptied}
 
 module _ (S : Store) (r : ℕ) where
   pub delete-refused : refusal S (delete r) ≡ orElse (reason (regionTests (pages S) (length (S .heap)) (entryOf (regions S) r))) (reason (deleteTests (S .state) r (entryOf (regions S) r) (tagOf (regions S) r)))
@@ -24,7 +25,7 @@ module _ (S : Store) (r : ℕ) where
   delete-refused = one-region S (deleteTests (S .state) r (entryOf (regions S) r) (tagOf (regions S) r)) r
 
   pub delete-leaves : store (emptied (S .state) (S .heap) (entryOf (regions S) r) (tagOf (regions S) r)) (S .heap) ≡ deleted S r
-  unfolding deleted recounted outgoing newlyCounted slotTargets ownerOf outOf emptied newTargets targets ownWords ownWordsTo
+  unfolding deleted recounted outgoing newlyCounted slotTargets ownerOf outOf emptied newTargets slotTags ownWords ownWordsTo
   delete-leaves = refl
 
 -- ---- the numbers from i up to n

@@ -15,8 +15,8 @@ returns c =
       c .before .leave-frame .ensures,
       c .before .before .less .ensures,
       c .before .before .before .top .ensures,
-      ← c .before .before .before .before .before .before .uncounts .ensures,
-      c .before .before .before .before .before .if1 .taken,
+      ← c .before .before .before .before .before .before .before .before .before .uncounts .ensures,
+      c .before .before .before .before .before .before .before .before .if1 .taken,
     )
 
 returns-2 : tie.Need-returns-2
