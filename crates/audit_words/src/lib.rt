@@ -3,30 +3,7 @@ use kinds::Kinds;
 use pages::Pages;
 use regions::Regions;
 ghost use mathlib.Core.Path.{_≡_};
-ghost use Rattle.model.specs.Model.{rule};
 ghost use Rattle.audit_words.specs.Words.{wordHolds, wordsHold, objectsHold, pageHolds, pagesHold};
-
-// Whether a word with mark k, of an object of region h, right below region u, may lead into region t.
-fn keeps_rule(k: u32, t: u32, h: u32, u: u32) -> bool
-    ensures { λ r. ⌜ r ≡ rule k t h u ⌝ }
-{
-    if k == 1 {
-        return true;
-    }
-    if k == 2 {
-        return t == h;
-    }
-    if k == 3 {
-        if t == h {
-            return true;
-        }
-        return t == u;
-    }
-    if k == 4 {
-        return t == 1;
-    }
-    false
-}
 
 // Whether a word with mark m that holds x is data, null, or leads to an object that the mark allows.
 fn word_holds(
@@ -51,7 +28,7 @@ fn word_holds(
         return false;
     }
     let t = pages::owner_of(&p.owners, x);
-    keeps_rule(m, regions::name_of(g, t), own, above)
+    kinds::allows(m, regions::name_of(g, t), own, above)
 }
 
 // The same of the n words of an object of that kind.
@@ -92,8 +69,8 @@ fn objects_hold(k: Kinds, heap: &[u32], g: Regions, p: Pages, own: u32, above: u
             return true;
         }
         let kind = cells::word(heap, at);
-        let words = cells::part(heap, at + 1, s as usize);
-        if !words_hold(k, heap, g, p, own, above, kind, words, s) {
+        let object = objects::words(heap, at + 1, s as usize);
+        if !words_hold(k, heap, g, p, own, above, kind, object, s) {
             return false;
         }
         at = at + 1 + (s as usize);

@@ -11,6 +11,7 @@ ghost use Rattle.lists.specs.Lists.{joined, upTo};
 ghost use Rattle.model.specs.Model.{audit};
 ghost use Rattle.regions.specs.Regions.{moved};
 ghost use Rattle.pages.specs.Pages.{pageCount};
+ghost use Rattle.outcomes.specs.Shape.{Shaped};
 ghost use Rattle.outcomes.specs.Outcome.{Outcome, answerOf, store};
 ghost use Rattle.checks.specs.Checks.{slotTags};
 ghost use Rattle.calls_audit.specs.Passes.{wordTags, isZero, allZero, countsFit, passes};
@@ -119,10 +120,11 @@ fn passes(s: State, heap: &[u32]) -> bool
     counts_fit(s, heap)
 }
 
-// Document 01's call 22.
+// Document 01's call 22: 1 for memory that keeps the rules, else 0. The contract says too what demand 3 asks of audited memory beside that: that it is of the language's types.
 pub fn audit(s: State, heap: &[u32]) -> Reply
-    ensures { λ r. ⌜ Outcome audit (store s (now (heap .entry))) (answerOf r []) (store s (now (heap .entry))) ⌝ }
+    ensures { λ r. ⌜ Outcome audit (store s (now (heap .entry))) (answerOf r []) (store s (now (heap .entry))) × Shaped (store s (now (heap .entry))) ⌝ }
 {
+    shapes::shaped(s, heap);
     if passes(s, heap) {
         return checks::gives(1, 0, 0, 0);
     }

@@ -5,7 +5,7 @@ use mathlib.Core.List.{List, [], _∷_}
 use Prim.Native.Nat.{ℕ, _-_}
 use lib.Dec.{eqb}
 use Rattle.lists.specs.Lists.{any, keep, joined, from, upTo}
-use Rattle.model.specs.Calls.{_⇒_}
+use Rattle.model.specs.Calls.{_yields_}
 use Rattle.frames.specs.declared.Frames.{Frames}
 use Rattle.frames.specs.Frames.{frameCount, widthAt, slotAt, raised}
 use Rattle.kinds.specs.declared.Kinds.{Kinds}
@@ -26,8 +26,8 @@ looked f owners t = any (leads f owners t) (from (f .counted) (frameCount f - f 
 -- what keeps a live region named n from being deleted
 unfoldable pub deleteTests : State → ℕ → ℕ → ℕ → List (Bool × ℕ)
 deleteTests s n e t =
-    eqb n 1 ⇒ 3 ∷ not (eqb (subregionsOf (s .regions) t) 0) ⇒ 18
-    ∷ (not (eqb (countAt (s .regions) e) 0) || looked (s .frames) (s .pages .owners) t) ⇒ 19 ∷ []
+    eqb n 1 yields 3 ∷ not (eqb (subregionsOf (s .regions) t) 0) yields 18
+    ∷ (not (eqb (countAt (s .regions) e) 0) || looked (s .frames) (s .pages .owners) t) yields 19 ∷ []
 
 -- the regions that the slots of the frames lead into that are counted once m is raised
 unfoldable pub newTargets : Frames → List ℕ → List ℕ

@@ -12,7 +12,7 @@ use borrow.Author.Tests.{eqb-true, eqb-false, ltb-true, leb-false, not-false, eq
 use Rattle.lists.specs.Lists.{pick}
 use Rattle.lists.specs.Laws.Tests.{neither, by-test}
 use Rattle.model.specs.Model.{Answer, allocate, gives}
-use Rattle.model.specs.Calls.{reason, _⇒_}
+use Rattle.model.specs.Calls.{reason, _yields_}
 use Rattle.model.specs.Laws.Passed.{all-passed}
 use Rattle.kinds.specs.declared.Kinds.{Kinds}
 use Rattle.kinds.specs.Kinds.{kindCount, sizeOf, wrongMarks}
@@ -120,7 +120,7 @@ module _ (s : State) (heap : List ℕ) (slot region kind : ℕ) where
   tests : refusal S (allocate slot region kind) ≡ orElse first second
   unfolding refusal checks dead isLive size objectTests
   tests =
-      one-slot S (dead S region ⇒ 2 ∷ (eqb kind 0 || ltb (kindCount (s .kinds)) kind) ⇒ 12 ∷ (not (roomy S entry (1 + words)) && eqb (pagesOf (s .pages) 0) 0) ⇒ 13 ∷ []) slot
+      one-slot S (dead S region yields 2 ∷ (eqb kind 0 || ltb (kindCount (s .kinds)) kind) yields 12 ∷ (not (roomy S entry (1 + words)) && eqb (pagesOf (s .pages) 0) 0) yields 13 ∷ []) slot
       ∙ rw (place-none S entry (1 + words))
 
   -- the first tests refuse

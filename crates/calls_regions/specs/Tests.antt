@@ -3,7 +3,7 @@ use mathlib.Core.Bool.{Bool, not, _||_}
 use mathlib.Core.List.{List, [], _∷_}
 use Prim.Native.Nat.{ℕ}
 use lib.Dec.{eqb, ltb, leb}
-use Rattle.model.specs.Calls.{_⇒_}
+use Rattle.model.specs.Calls.{_yields_}
 use Rattle.kinds.specs.declared.Kinds.{Kinds}
 use Rattle.kinds.specs.Kinds.{kindCount, wrongMarks}
 use Rattle.regions.specs.declared.Regions.{Regions}
@@ -13,20 +13,20 @@ use Rattle.pages.specs.Pages.{wrongLength}
 
 -- declare, with a heap of n words
 unfoldable pub declareTests : Pages → ℕ → Kinds → List ℕ → List (Bool × ℕ)
-declareTests p n k ms = wrongLength p n ⇒ 21 ∷ wrongMarks ms ⇒ 11 ∷ leb 16 (k .declared) ⇒ 10 ∷ []
+declareTests p n k ms = wrongLength p n yields 21 ∷ wrongMarks ms yields 11 ∷ leb 16 (k .declared) yields 10 ∷ []
 
 -- that a region more can be made
 unfoldable pub regionTests : Regions → List (Bool × ℕ)
-regionTests r = leb 64 (liveCount r) ⇒ 4 ∷ leb 1000000 (r .given) ⇒ 5 ∷ []
+regionTests r = leb 64 (liveCount r) yields 4 ∷ leb 1000000 (r .given) yields 5 ∷ []
 
 -- new region, with a heap of n words
 unfoldable pub newTests : Pages → ℕ → Regions → List (Bool × ℕ)
-newTests p n r = wrongLength p n ⇒ 21 ∷ regionTests r
+newTests p n r = wrongLength p n yields 21 ∷ regionTests r
 
 -- subregion of the region at entry e, with a heap of n words
 unfoldable pub subregionTests : Pages → ℕ → Regions → ℕ → List (Bool × ℕ)
-subregionTests p n r e = wrongLength p n ⇒ 21 ∷ not (ltb e 64) ⇒ 2 ∷ leb 16 (levelAt r e) ⇒ 20 ∷ regionTests r
+subregionTests p n r e = wrongLength p n yields 21 ∷ not (ltb e 64) yields 2 ∷ leb 16 (levelAt r e) yields 20 ∷ regionTests r
 
 -- allocate, after its slot: a region at entry e, and an object that would stand at v, 0 where there is no room
 unfoldable pub objectTests : Kinds → ℕ → ℕ → ℕ → List (Bool × ℕ)
-objectTests k e kind v = not (ltb e 64) ⇒ 2 ∷ (eqb kind 0 || ltb (kindCount k) kind) ⇒ 12 ∷ eqb v 0 ⇒ 13 ∷ []
+objectTests k e kind v = not (ltb e 64) yields 2 ∷ (eqb kind 0 || ltb (kindCount k) kind) yields 12 ∷ eqb v 0 yields 13 ∷ []

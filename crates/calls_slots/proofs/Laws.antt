@@ -8,7 +8,7 @@ use lib.Dec.{ltb}
 use lib.ListN.{length}
 use borrow.Author.Tests.{le-ltb, lt-ltb}
 use Rattle.model.specs.Model.{first, copy, fetch, clear, same, about}
-use Rattle.model.specs.Calls.{reason, _⇒_}
+use Rattle.model.specs.Calls.{reason, _yields_}
 use Rattle.outcomes.specs.Store.{Store, frames, pages}
 use Rattle.outcomes.specs.Outcome.{refusal, checks, dead, lacks, lacksBeneath, badLength, oneFrame}
 use Rattle.checks.specs.Checks.{orElse, topTests, beneathTests}
@@ -18,9 +18,9 @@ module _ (S : Store) where
   abbrev pub tests : ℕ → ℕ → ℕ
   tests s t = reason (topTests (pages S) (length (S .heap)) (frames S) s t)
 
-  pub first-tests : (s r : ℕ) → refusal S (first s r) ≡ orElse (tests s s) (reason (dead S r ⇒ 2 ∷ []))
+  pub first-tests : (s r : ℕ) → refusal S (first s r) ≡ orElse (tests s s) (reason (dead S r yields 2 ∷ []))
   unfolding refusal checks
-  first-tests s r = one-slot S (dead S r ⇒ 2 ∷ []) s
+  first-tests s r = one-slot S (dead S r yields 2 ∷ []) s
 
   pub copy-tests : (s t : ℕ) → refusal S (copy s t) ≡ tests s t
   unfolding refusal checks
@@ -28,7 +28,7 @@ module _ (S : Store) where
 
   pub fetch-tests : (b s : ℕ) → refusal S (fetch b s) ≡ reason (beneathTests (pages S) (length (S .heap)) (frames S) s b)
   unfolding refusal checks
-  fetch-tests b s = ap (λ x. reason (badLength S ⇒ 21 ∷ oneFrame S ⇒ 6 ∷ x ⇒ 9 ∷ [])) (or-comm (lacksBeneath S b) (lacks S s)) ∙ slot-beneath S [] s b ∙ or-zero (reason (beneathTests (pages S) (length (S .heap)) (frames S) s b))
+  fetch-tests b s = ap (λ x. reason (badLength S yields 21 ∷ oneFrame S yields 6 ∷ x yields 9 ∷ [])) (or-comm (lacksBeneath S b) (lacks S s)) ∙ slot-beneath S [] s b ∙ or-zero (reason (beneathTests (pages S) (length (S .heap)) (frames S) s b))
 
   pub clear-tests : (s : ℕ) → refusal S (clear s) ≡ tests s s
   unfolding refusal checks
@@ -43,8 +43,8 @@ module _ (S : Store) where
   about-tests s = one-slot S [] s ∙ or-zero (tests s s)
 
 -- the test of a live region, as the entry found decides it
-pub refuses : (i j : ℕ) → i ≡ j → 64 ≤ i → reason (not (ltb j 64) ⇒ 2 ∷ []) ≡ 2
+pub refuses : (i j : ℕ) → i ≡ j → 64 ≤ i → reason (not (ltb j 64) yields 2 ∷ []) ≡ 2
 refuses i j e h = rw (← e, le-ltb i 64 h)
 
-pub accepts : (i j : ℕ) → i ≡ j → i < 64 → reason (not (ltb j 64) ⇒ 2 ∷ []) ≡ 0
+pub accepts : (i j : ℕ) → i ≡ j → i < 64 → reason (not (ltb j 64) yields 2 ∷ []) ≡ 0
 accepts i j e h = rw (← e, lt-ltb i 64 h)

@@ -5,7 +5,7 @@ use mathlib.Core.List.{List, [], _∷_}
 use Prim.Native.Nat.{ℕ, _-_}
 use lib.Dec.{eqb, ltb, leb}
 use Rattle.lists.specs.Lists.{pick}
-use Rattle.model.specs.Calls.{_⇒_}
+use Rattle.model.specs.Calls.{_yields_}
 use Rattle.frames.specs.declared.Frames.{Frames}
 use Rattle.frames.specs.Frames.{topFrame, uncounts, popped}
 use Rattle.regions.specs.declared.Regions.{Regions}
@@ -17,10 +17,10 @@ use Rattle.checks.specs.Checks.{slotTags}
 
 -- the tests of push: a heap of n words, w slots
 unfoldable pub pushTests : Pages → ℕ → Frames → ℕ → List (Bool × ℕ)
-pushTests p n f w = wrongLength p n ⇒ 21 ∷ (eqb w 0 || ltb 8 w) ⇒ 8 ∷ leb 32 (f .standing) ⇒ 7 ∷ []
+pushTests p n f w = wrongLength p n yields 21 ∷ (eqb w 0 || ltb 8 w) yields 8 ∷ leb 32 (f .standing) yields 7 ∷ []
 
 unfoldable pub dropTests : Pages → ℕ → Frames → List (Bool × ℕ)
-dropTests p n f = wrongLength p n ⇒ 21 ∷ eqb (f .standing) 0 ⇒ 6 ∷ []
+dropTests p n f = wrongLength p n yields 21 ∷ eqb (f .standing) 0 yields 6 ∷ []
 
 -- the regions after the top frame goes: if the frame then on top was counted, its pointers leave the counts
 unfoldable pub uncountedTop : Regions → Pages → Frames → Regions

@@ -9,7 +9,7 @@ use lib.Dec.{eqb}
 use lib.ListN.{length}
 use Rattle.lists.specs.Lists.{pick}
 use Rattle.model.specs.Model.{load, setPointer, put, get, view}
-use Rattle.model.specs.Calls.{reason, _⇒_}
+use Rattle.model.specs.Calls.{reason, _yields_}
 use Rattle.kinds.specs.Kinds as Kinds
 use Rattle.regions.specs.Regions.{moved}
 use Rattle.regions.specs.Laws.Counts.{moved-moved, moved-come-skip, moved-gone-skip}
@@ -25,31 +25,31 @@ module _ (S : Store) (s : ℕ) where
   abbrev pub top : ℕ → ℕ
   top t = reason (topTests (pages S) (length (S .heap)) (frames S) s t)
 
-  pub word-tests : (w t : ℕ) → reason (wordTests S s w t) ≡ orElse (top t) (reason (eqb (slot S s) 0 ⇒ 14 ∷ noWord S s w ⇒ 15 ∷ []))
+  pub word-tests : (w t : ℕ) → reason (wordTests S s w t) ≡ orElse (top t) (reason (eqb (slot S s) 0 yields 14 ∷ noWord S s w yields 15 ∷ []))
   unfolding wordTests
-  word-tests w t = two-slots S (eqb (slot S s) 0 ⇒ 14 ∷ noWord S s w ⇒ 15 ∷ []) s t
+  word-tests w t = two-slots S (eqb (slot S s) 0 yields 14 ∷ noWord S s w yields 15 ∷ []) s t
 
-  pub load-tests : (w t : ℕ) → refusal S (load s w t) ≡ orElse (reason (wordTests S s w t)) (reason (isData S s w ⇒ 16 ∷ []))
+  pub load-tests : (w t : ℕ) → refusal S (load s w t) ≡ orElse (reason (wordTests S s w t)) (reason (isData S s w yields 16 ∷ []))
   unfolding refusal checks wordTests
-  load-tests w t = reason-append (wordTests S s w t) (isData S s w ⇒ 16 ∷ []) refl
+  load-tests w t = reason-append (wordTests S s w t) (isData S s w yields 16 ∷ []) refl
 
-  pub get-tests : (w : ℕ) → refusal S (get s w) ≡ orElse (reason (wordTests S s w s)) (reason (not (isData S s w) ⇒ 16 ∷ []))
+  pub get-tests : (w : ℕ) → refusal S (get s w) ≡ orElse (reason (wordTests S s w s)) (reason (not (isData S s w) yields 16 ∷ []))
   unfolding refusal checks wordTests
   get-tests w =
-      let rest : List (Bool × ℕ) = eqb (slot S s) 0 ⇒ 14 ∷ noWord S s w ⇒ 15 ∷ not (isData S s w) ⇒ 16 ∷ [] in
-      one-slot S rest s ∙ sym (two-slots S rest s s) ∙ reason-append (wordTests S s w s) (not (isData S s w) ⇒ 16 ∷ []) refl
+      let rest : List (Bool × ℕ) = eqb (slot S s) 0 yields 14 ∷ noWord S s w yields 15 ∷ not (isData S s w) yields 16 ∷ [] in
+      one-slot S rest s ∙ sym (two-slots S rest s s) ∙ reason-append (wordTests S s w s) (not (isData S s w) yields 16 ∷ []) refl
 
   pub put-tests : (w x : ℕ) → refusal S (put s w x) ≡ refusal S (get s w)
   unfolding refusal checks
   put-tests w x = refl
 
-  pub set-tests : (w v : ℕ) → refusal S (setPointer s w v) ≡ orElse (refusal S (load s w v)) (reason (breaks S (slot S s) w (slot S v) ⇒ 17 ∷ []))
+  pub set-tests : (w v : ℕ) → refusal S (setPointer s w v) ≡ orElse (refusal S (load s w v)) (reason (breaks S (slot S s) w (slot S v) yields 17 ∷ []))
   unfolding refusal checks
-  set-tests w v = reason-append (checks S (load s w v)) (breaks S (slot S s) w (slot S v) ⇒ 17 ∷ []) refl
+  set-tests w v = reason-append (checks S (load s w v)) (breaks S (slot S s) w (slot S v) yields 17 ∷ []) refl
 
-  pub view-tests : refusal S (view s) ≡ orElse (top s) (reason (eqb (slot S s) 0 ⇒ 14 ∷ not (Kinds.allData (kinds S) (kindOf (S .heap) (slot S s))) ⇒ 16 ∷ []))
+  pub view-tests : refusal S (view s) ≡ orElse (top s) (reason (eqb (slot S s) 0 yields 14 ∷ not (Kinds.allData (kinds S) (kindOf (S .heap) (slot S s))) yields 16 ∷ []))
   unfolding refusal checks allData Kinds.allData wordCount
-  view-tests = one-slot S (eqb (slot S s) 0 ⇒ 14 ∷ not (allData S s) ⇒ 16 ∷ []) s
+  view-tests = one-slot S (eqb (slot S s) 0 yields 14 ∷ not (allData S s) yields 16 ∷ []) s
 
 -- leaving one count and then entering another is one move
 pub counts-moved : (cs : List ℕ) (k h a l g b : ℕ) → moved (moved cs [] (countedTag k h a ∷ [])) (countedTag l g b ∷ []) []

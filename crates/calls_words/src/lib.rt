@@ -4,13 +4,13 @@ use state::Reply;
 use state::State;
 ghost use mathlib.Core.Path.{_≡_};
 ghost use mathlib.Core.List.{[]};
-ghost use Rattle.model.specs.Model.{load, setPointer, put, get, view, rule};
+ghost use Rattle.model.specs.Model.{load, setPointer, put, get, view};
 ghost use Rattle.model.specs.Calls.{reason};
 ghost use Rattle.frames.specs.Frames.{topFrame, slotAt};
 ghost use Rattle.objects.specs.Objects.{markOf};
 ghost use Rattle.outcomes.specs.Store.{breaks};
-ghost use Rattle.outcomes.specs.Outcome.{Outcome, answerOf, store, refusal, pointed};
-ghost use Rattle.calls_words.specs.Words.{wordTests, countedTag, viewAnswer, wordsIn};
+ghost use Rattle.outcomes.specs.Outcome.{Outcome, answerOf, viewAnswer, store, refusal, pointed};
+ghost use Rattle.calls_words.specs.Words.{wordTests, countedTag};
 
 // 21, 6, 9, 14 and 15 for word w of the object in a slot; `other` is the second slot that the call names, or the same one.
 fn object_refusal(s: State, heap: &[u32], slot: u32, w: u32, other: u32) -> u32
@@ -133,7 +133,7 @@ pub fn view_refusal(s: State, heap: &[u32], slot: u32) -> u32
 
 // Document 01's call 17: the object's part of the heap itself, which begins at its word 0; empty where view_refusal refuses.
 pub fn view<'a>(s: State, heap: &'a [u32], slot: u32) -> &'a [u32]
-    ensures { λ r. ⌜ Outcome (view slot) (store s (now (heap .entry))) (viewAnswer (store s (now (heap .entry))) slot (now r)) (store s (now (heap .entry))) × (refusal (store s (now (heap .entry))) (view slot) ≡ 0 → now r ≡ wordsIn (store s (now (heap .entry))) slot) ⌝ }
+    ensures { λ r. ⌜ Outcome (view slot) (store s (now (heap .entry))) (viewAnswer (store s (now (heap .entry))) slot (now r)) (store s (now (heap .entry))) ⌝ }
 {
     if view_refusal(s, heap, slot) != 0 {
         return &heap[0..0];
@@ -141,29 +141,7 @@ pub fn view<'a>(s: State, heap: &'a [u32], slot: u32) -> &'a [u32]
     let f = s.frames;
     let k = s.kinds;
     let v = checks::top_slot(f, slot);
-    objects::words(heap, v, objects::word_count(k, heap, v))
-}
-
-// Whether a word marked k, of an object of the region named h below the region named u, may lead into the region named t.
-fn allows(k: u32, t: u32, h: u32, u: u32) -> bool
-    ensures { λ r. ⌜ r ≡ rule k t h u ⌝ }
-{
-    if k == 1 {
-        return true;
-    }
-    if k == 2 {
-        return t == h;
-    }
-    if k == 3 {
-        if t == h {
-            return true;
-        }
-        return t == u;
-    }
-    if k == 4 {
-        return t == 1;
-    }
-    false
+    objects::words(heap, v as usize, objects::word_count(k, heap, v) as usize)
 }
 
 // Whether x breaks the mark of word w of the object that v leads to.
@@ -180,7 +158,7 @@ fn breaks(s: State, heap: &[u32], v: u32, w: u32, x: u32) -> bool
     let h = checks::tag_of(p, v);
     let up = regions::parent_at(r, cells::less(h));
     let to = checks::tag_of(p, x);
-    if allows(
+    if kinds::allows(
         m,
         regions::name_of(r, to),
         regions::name_of(r, h),

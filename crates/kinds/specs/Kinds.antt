@@ -1,4 +1,4 @@
--- The kinds as the state keeps them (document 01, The store). Every reading is total: where there is no such kind or word it gives 0.
+-- The kinds as the state keeps them (document 01, The store). Every reading is total: a kind that was not declared has no words, and a mark past the end of the array reads 0.
 -- Assumes nothing.
 use mathlib.Core.Bool.{Bool, _&&_, _||_}
 use mathlib.Core.List.{List}
@@ -17,7 +17,7 @@ kindCount k = min (k .declared) 16
 unfoldable pub sizeOf : Kinds → ℕ → ℕ
 sizeOf k n = pick (ltb 0 n && leb n (kindCount k)) (min (getD (k .sizes) (n - 1) 0) 16) 0
 
--- the mark of word w of kind n
+-- the mark of word w of kind n, for a kind declared and a word that it has; else what stands there
 unfoldable pub markAt : Kinds → ℕ → ℕ → ℕ
 markAt k n w = getD (k .marks) (16 * (n - 1) + w) 0
 

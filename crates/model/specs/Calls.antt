@@ -12,9 +12,9 @@ use Rattle.model.specs.Model.{Region, Object, Model, Answer, four, gives
 -- ---- Refusals (document 01, The calls). 21 is not among them: each call of a session gets the store's own heap
 
 -- tests in order, each with the number that refuses; the first that holds decides, and 0 accepts
-infix 68 _⇒_
-abbrev pub _⇒_ : Bool → ℕ → Bool × ℕ
-b ⇒ n = (b, n)
+infix 68 _yields_
+abbrev pub _yields_ : Bool → ℕ → Bool × ℕ
+b yields n = (b, n)
 
 abbrev pub reason : List (Bool × ℕ) → ℕ
 reason [] = 0
@@ -51,32 +51,32 @@ fits g n = leb n (g .room)
 
 -- the tests of each call, in document 01's order
 unfoldable pub checks : Model → Call → List (Bool × ℕ)
-checks L (declare ms) = (eqb (length ms) 0 || ltb 16 (length ms) || any (ltb 4) ms) ⇒ 11 ∷ leb 16 (length (L .kinds)) ⇒ 10 ∷ []
-checks L newRegion = leb 64 (length (L .regions)) ⇒ 4 ∷ leb 1000000 (L .given) ⇒ 5 ∷ []
-checks L (subregion r) = dead L r ⇒ 2 ∷ leb 16 ((region (L .regions) r) .level) ⇒ 20 ∷ leb 64 (length (L .regions)) ⇒ 4 ∷ leb 1000000 (L .given) ⇒ 5 ∷ []
-checks L (push n) = (eqb n 0 || ltb 8 n) ⇒ 8 ∷ leb 32 (length (L .frames)) ⇒ 7 ∷ []
-checks L dropFrame = noFrame L ⇒ 6 ∷ []
-checks L (handBack s b) = oneFrame L ⇒ 6 ∷ (lacks (top L) s || lacks (beneath L) b) ⇒ 9 ∷ []
+checks L (declare ms) = (eqb (length ms) 0 || ltb 16 (length ms) || any (ltb 4) ms) yields 11 ∷ leb 16 (length (L .kinds)) yields 10 ∷ []
+checks L newRegion = leb 64 (length (L .regions)) yields 4 ∷ leb 1000000 (L .given) yields 5 ∷ []
+checks L (subregion r) = dead L r yields 2 ∷ leb 16 ((region (L .regions) r) .level) yields 20 ∷ leb 64 (length (L .regions)) yields 4 ∷ leb 1000000 (L .given) yields 5 ∷ []
+checks L (push n) = (eqb n 0 || ltb 8 n) yields 8 ∷ leb 32 (length (L .frames)) yields 7 ∷ []
+checks L dropFrame = noFrame L yields 6 ∷ []
+checks L (handBack s b) = oneFrame L yields 6 ∷ (lacks (top L) s || lacks (beneath L) b) yields 9 ∷ []
 checks L (allocate s r k) =
-    noFrame L ⇒ 6 ∷ lacks (top L) s ⇒ 9 ∷ dead L r ⇒ 2 ∷ (eqb k 0 || ltb (length (L .kinds)) k) ⇒ 12
-    ∷ (not (fits (region (L .regions) r) (size L k)) && eqb (L .free) 0) ⇒ 13 ∷ []
-checks L (first s r) = noFrame L ⇒ 6 ∷ lacks (top L) s ⇒ 9 ∷ dead L r ⇒ 2 ∷ []
-checks L (copy s t) = noFrame L ⇒ 6 ∷ (lacks (top L) s || lacks (top L) t) ⇒ 9 ∷ []
-checks L (fetch b s) = oneFrame L ⇒ 6 ∷ (lacks (beneath L) b || lacks (top L) s) ⇒ 9 ∷ []
-checks L (clear s) = noFrame L ⇒ 6 ∷ lacks (top L) s ⇒ 9 ∷ []
-checks L (load s w t) = noFrame L ⇒ 6 ∷ (lacks (top L) s || lacks (top L) t) ⇒ 9 ∷ null L s ⇒ 14 ∷ noWord L s w ⇒ 15 ∷ eqb (markAt L s w) 0 ⇒ 16 ∷ []
+    noFrame L yields 6 ∷ lacks (top L) s yields 9 ∷ dead L r yields 2 ∷ (eqb k 0 || ltb (length (L .kinds)) k) yields 12
+    ∷ (not (fits (region (L .regions) r) (size L k)) && eqb (L .free) 0) yields 13 ∷ []
+checks L (first s r) = noFrame L yields 6 ∷ lacks (top L) s yields 9 ∷ dead L r yields 2 ∷ []
+checks L (copy s t) = noFrame L yields 6 ∷ (lacks (top L) s || lacks (top L) t) yields 9 ∷ []
+checks L (fetch b s) = oneFrame L yields 6 ∷ (lacks (beneath L) b || lacks (top L) s) yields 9 ∷ []
+checks L (clear s) = noFrame L yields 6 ∷ lacks (top L) s yields 9 ∷ []
+checks L (load s w t) = noFrame L yields 6 ∷ (lacks (top L) s || lacks (top L) t) yields 9 ∷ null L s yields 14 ∷ noWord L s w yields 15 ∷ eqb (markAt L s w) 0 yields 16 ∷ []
 checks L (setPointer s w v) =
-    noFrame L ⇒ 6 ∷ (lacks (top L) s || lacks (top L) v) ⇒ 9 ∷ null L s ⇒ 14 ∷ noWord L s w ⇒ 15 ∷ eqb (markAt L s w) 0 ⇒ 16
-    ∷ not (allowed (parentIn L) (homeIn L) ((held L s) .home) (markAt L s w) (slot L v)) ⇒ 17 ∷ []
-checks L (put s w x) = noFrame L ⇒ 6 ∷ lacks (top L) s ⇒ 9 ∷ null L s ⇒ 14 ∷ noWord L s w ⇒ 15 ∷ not (eqb (markAt L s w) 0) ⇒ 16 ∷ []
-checks L (get s w) = noFrame L ⇒ 6 ∷ lacks (top L) s ⇒ 9 ∷ null L s ⇒ 14 ∷ noWord L s w ⇒ 15 ∷ not (eqb (markAt L s w) 0) ⇒ 16 ∷ []
-checks L (view s) = noFrame L ⇒ 6 ∷ lacks (top L) s ⇒ 9 ∷ null L s ⇒ 14 ∷ not (every (eqb 0) (heldMarks L s)) ⇒ 16 ∷ []
-checks L (same s t) = noFrame L ⇒ 6 ∷ (lacks (top L) s || lacks (top L) t) ⇒ 9 ∷ []
-checks L (about s) = noFrame L ⇒ 6 ∷ lacks (top L) s ⇒ 9 ∷ []
-checks L (report r) = dead L r ⇒ 2 ∷ []
+    noFrame L yields 6 ∷ (lacks (top L) s || lacks (top L) v) yields 9 ∷ null L s yields 14 ∷ noWord L s w yields 15 ∷ eqb (markAt L s w) 0 yields 16
+    ∷ not (allowed (parentIn L) (homeIn L) ((held L s) .home) (markAt L s w) (slot L v)) yields 17 ∷ []
+checks L (put s w x) = noFrame L yields 6 ∷ lacks (top L) s yields 9 ∷ null L s yields 14 ∷ noWord L s w yields 15 ∷ not (eqb (markAt L s w) 0) yields 16 ∷ []
+checks L (get s w) = noFrame L yields 6 ∷ lacks (top L) s yields 9 ∷ null L s yields 14 ∷ noWord L s w yields 15 ∷ not (eqb (markAt L s w) 0) yields 16 ∷ []
+checks L (view s) = noFrame L yields 6 ∷ lacks (top L) s yields 9 ∷ null L s yields 14 ∷ not (every (eqb 0) (heldMarks L s)) yields 16 ∷ []
+checks L (same s t) = noFrame L yields 6 ∷ (lacks (top L) s || lacks (top L) t) yields 9 ∷ []
+checks L (about s) = noFrame L yields 6 ∷ lacks (top L) s yields 9 ∷ []
+checks L (report r) = dead L r yields 2 ∷ []
 checks L totals = []
 checks L audit = []
-checks L (delete r) = dead L r ⇒ 2 ∷ eqb r 1 ⇒ 3 ∷ not (eqb (subregions L r) 0) ⇒ 18 ∷ not (eqb (outside L r) 0) ⇒ 19 ∷ []
+checks L (delete r) = dead L r yields 2 ∷ eqb r 1 yields 3 ∷ not (eqb (subregions L r) 0) yields 18 ∷ not (eqb (outside L r) 0) yields 19 ∷ []
 
 unfoldable pub refusal : Model → Call → ℕ
 refusal L c = reason (checks L c)

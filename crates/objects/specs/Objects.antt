@@ -26,6 +26,10 @@ markOf k heap v w = markAt k (kindOf heap v) w
 unfoldable pub wordAt : List ℕ → ℕ → ℕ → ℕ
 wordAt heap v w = getD heap (v + w) 0
 
+-- how many words the object has whose header stands at place p; 0 where it is no kind's number or the object would go past place e
+unfoldable pub sizeIn : Kinds → List ℕ → ℕ → ℕ → ℕ
+sizeIn k heap p e = let s = sizeOf k (getD heap p 0) in pick (leb (p + 1 + s) e) s 0
+
 -- the headers met from place p on, one object after the other, as far as place e; at most n. What is no kind's number, or an object that would go past e, ends the walk
 unfoldable pub walk : Kinds → List ℕ → ℕ → ℕ → ℕ → List ℕ
 walk k heap zero p e = []
@@ -40,6 +44,10 @@ headersTo k heap j n = walk k heap 64 (64 * j) (64 * j + n)
 
 unfoldable pub headersOn : Kinds → List ℕ → Pages → ℕ → List ℕ
 headersOn k heap p j = headersTo k heap j (takenAt p j)
+
+-- of the first n words ws of an object of that kind, what those marked 1 hold
+unfoldable pub marked : Kinds → ℕ → List ℕ → ℕ → List ℕ
+marked k kind ws n = map (λ w. getD ws w 0) (keep (λ w. eqb (markAt k kind w) 1) (upTo n))
 
 -- what the words marked 1 hold: of the object whose header stands at place p, and of all objects on page j
 unfoldable pub freeWords : Kinds → List ℕ → ℕ → List ℕ

@@ -6,10 +6,15 @@ ghost use lib.ListN.{take, drop};
 ghost use Rattle.lists.specs.Lists.{count, joined};
 ghost use Rattle.regions.specs.Regions.{moved};
 ghost use Rattle.pages.specs.Pages.{ownerIn};
-ghost use Rattle.objects.specs.Objects.{kindOf, wordCount, markOf, wordAt, headersTo, freeWords, outOf};
-ghost use Rattle.objects.specs.Laws.Walk.{sizeIn};
-ghost use Rattle.objects.specs.Laws.Words.{marked};
+ghost use Rattle.objects.specs.Objects.{kindOf, wordCount, markOf, wordAt, sizeIn, headersTo, marked, freeWords, outOf};
 use kinds::Kinds;
+
+// The n words from place `at` on, as far as the heap goes. Who reads an object gets this part of the heap, which begins at its header or at its word 0.
+pub fn words(heap: &[u32], at: usize, n: usize) -> &[u32]
+    ensures { λ r. ⌜ now r ≡ take n (drop at (now (heap .entry))) ⌝ }
+{
+    cells::part(heap, at, n)
+}
 
 // The kind of the object that a pointer leads to, 0 for null.
 pub fn kind_of(heap: &[u32], v: u32) -> u32
@@ -18,7 +23,8 @@ pub fn kind_of(heap: &[u32], v: u32) -> u32
     if v == 0 {
         return 0;
     }
-    cells::word(heap, (v - 1) as usize)
+    let object = words(heap, (v - 1) as usize, 1);
+    cells::word(object, 0)
 }
 
 pub fn word_count(k: Kinds, heap: &[u32], v: u32) -> u32
@@ -36,14 +42,9 @@ pub fn mark_of(k: Kinds, heap: &[u32], v: u32, w: u32) -> u32
 pub fn word_at(heap: &[u32], v: u32, w: u32) -> u32
     ensures { λ r. ⌜ r ≡ wordAt (now (heap .entry)) v w ⌝ }
 {
-    cells::word(heap, (v as usize) + (w as usize))
-}
-
-// The part of the heap that holds the n words of the object that a pointer leads to.
-pub fn words<'a>(heap: &'a [u32], v: u32, n: u32) -> &'a [u32]
-    ensures { λ r. ⌜ now r ≡ take n (drop v (now (heap .entry))) ⌝ }
-{
-    cells::part(heap, v as usize, n as usize)
+    let i = w as usize;
+    let object = words(heap, v as usize, i + 1);
+    cells::word(object, i)
 }
 
 // How many words the object has whose header stands at `at`; 0 where no object stands there that ends by `end`.
@@ -88,8 +89,8 @@ pub fn count_into(k: Kinds, heap: &[u32], owners: &[u8], j: u32, n: u32, tag: u3
             break;
         }
         let kind = cells::word(heap, at);
-        let words = cells::part(heap, at + 1, s as usize);
-        sum += words_into(k, kind, words, s, owners, tag);
+        let object = words(heap, at + 1, s as usize);
+        sum += words_into(k, kind, object, s, owners, tag);
         at = at + 1 + (s as usize);
         i += 1;
     }
@@ -153,8 +154,8 @@ pub fn leave_page(
             break;
         }
         let kind = cells::word(heap, at);
-        let words = cells::part(heap, at + 1, s as usize);
-        let d = leave_words(k, kind, words, s, owners, c, own);
+        let object = words(heap, at + 1, s as usize);
+        let d = leave_words(k, kind, object, s, owners, c, own);
         c = d;
         at = at + 1 + (s as usize);
         i += 1;

@@ -10,16 +10,16 @@ use lib.ListN.{length, set, take, drop, replicate}
 use lib.Seq.{sets}
 use Rattle.lists.specs.Lists.{bit, pick, any, every, keep, joined, from, upTo}
 use Rattle.model.specs.Model.{Answer, Call, declare, newRegion, subregion, push, dropFrame, handBack, allocate, first, copy, fetch, clear, load, setPointer, put, get, view, same, about, report, totals, audit, delete, four, gives, refusedBy}
-use Rattle.model.specs.Calls.{reason, _⇒_, makes}
+use Rattle.model.specs.Calls.{reason, _yields_, makes}
 use Rattle.frames.specs.declared.Frames.{Frames}
 use Rattle.frames.specs.Frames.{frameCount, topFrame, widthAt, slotAt, putSlot, pushed, uncounts, popped, raised}
 use Rattle.kinds.specs.declared.Kinds.{Kinds}
-use Rattle.kinds.specs.Kinds.{kindCount, markAt, sizeOf, withKind}
+use Rattle.kinds.specs.Kinds.{kindCount, sizeOf, withKind, wrongMarks, allData as onlyData}
 use Rattle.regions.specs.declared.Regions.{Regions}
 use Rattle.regions.specs.Regions.{nameOf, entryOf, tagOf, isLive, liveCount, subregionsOf, levelAt, newestAt, oldestAt, countAt, unused, withRegion, withoutRegion, withPage, withCounts, moved}
 use Rattle.pages.specs.declared.Pages.{Pages}
 use Rattle.pages.specs.Pages.{wrongLength, pageCount, ownerAt, takenAt, ownerOf, isFree, pagesOf, withTaken, freed}
-use Rattle.objects.specs.Objects.{kindOf, wordCount, markOf, wordAt, freeWordsOn}
+use Rattle.objects.specs.Objects.{kindOf, wordCount, markOf, wordAt, freeWordsOn, outOf}
 use Rattle.state.specs.declared.State.{State}
 use Rattle.state.specs.declared.Reply.{Reply}
 use Rattle.outcomes.specs.Store.{Store, frames, kinds, regions, pages, slot, outsideOf, ledInto, slotTargets, breaks, size, roomy}
@@ -40,6 +40,7 @@ badLength S = wrongLength (pages S) (length (S .heap))
 unfoldable pub noFrame : Store → Bool
 noFrame S = eqb ((frames S) .standing) 0
 
+-- fewer than two
 unfoldable pub oneFrame : Store → Bool
 oneFrame S = ltb ((frames S) .standing) 2
 
@@ -67,38 +68,38 @@ unfoldable pub isData : Store → ℕ → ℕ → Bool
 isData S s w = eqb (markOf (kinds S) (S .heap) (slot S s) w) 0
 
 unfoldable pub allData : Store → ℕ → Bool
-allData S s = every (λ w. eqb (markAt (kinds S) (kindOf (S .heap) (slot S s)) w) 0) (upTo (wordCount (kinds S) (S .heap) (slot S s)))
+allData S s = onlyData (kinds S) (kindOf (S .heap) (slot S s))
 
 unfoldable pub checks : Store → Call → List (Bool × ℕ)
-checks S (declare ms) = badLength S ⇒ 21 ∷ (eqb (length ms) 0 || ltb 16 (length ms) || any (ltb 4) ms) ⇒ 11 ∷ leb 16 ((kinds S) .declared) ⇒ 10 ∷ []
-checks S newRegion = badLength S ⇒ 21 ∷ full S ⇒ 4 ∷ namesOut S ⇒ 5 ∷ []
-checks S (subregion r) = badLength S ⇒ 21 ∷ dead S r ⇒ 2 ∷ leb 16 (levelAt (regions S) (entryOf (regions S) r)) ⇒ 20 ∷ full S ⇒ 4 ∷ namesOut S ⇒ 5 ∷ []
-checks S (push n) = badLength S ⇒ 21 ∷ (eqb n 0 || ltb 8 n) ⇒ 8 ∷ leb 32 ((frames S) .standing) ⇒ 7 ∷ []
-checks S dropFrame = badLength S ⇒ 21 ∷ noFrame S ⇒ 6 ∷ []
-checks S (handBack s b) = badLength S ⇒ 21 ∷ oneFrame S ⇒ 6 ∷ (lacks S s || lacksBeneath S b) ⇒ 9 ∷ []
+checks S (declare ms) = badLength S yields 21 ∷ wrongMarks ms yields 11 ∷ leb 16 ((kinds S) .declared) yields 10 ∷ []
+checks S newRegion = badLength S yields 21 ∷ full S yields 4 ∷ namesOut S yields 5 ∷ []
+checks S (subregion r) = badLength S yields 21 ∷ dead S r yields 2 ∷ leb 16 (levelAt (regions S) (entryOf (regions S) r)) yields 20 ∷ full S yields 4 ∷ namesOut S yields 5 ∷ []
+checks S (push n) = badLength S yields 21 ∷ (eqb n 0 || ltb 8 n) yields 8 ∷ leb 32 ((frames S) .standing) yields 7 ∷ []
+checks S dropFrame = badLength S yields 21 ∷ noFrame S yields 6 ∷ []
+checks S (handBack s b) = badLength S yields 21 ∷ oneFrame S yields 6 ∷ (lacks S s || lacksBeneath S b) yields 9 ∷ []
 checks S (allocate s r k) =
-    badLength S ⇒ 21 ∷ noFrame S ⇒ 6 ∷ lacks S s ⇒ 9 ∷ dead S r ⇒ 2 ∷ (eqb k 0 || ltb (kindCount (kinds S)) k) ⇒ 12
-    ∷ (not (roomy S (entryOf (regions S) r) (size S k)) && eqb (pagesOf (pages S) 0) 0) ⇒ 13 ∷ []
-checks S (first s r) = badLength S ⇒ 21 ∷ noFrame S ⇒ 6 ∷ lacks S s ⇒ 9 ∷ dead S r ⇒ 2 ∷ []
-checks S (copy s t) = badLength S ⇒ 21 ∷ noFrame S ⇒ 6 ∷ (lacks S s || lacks S t) ⇒ 9 ∷ []
-checks S (fetch b s) = badLength S ⇒ 21 ∷ oneFrame S ⇒ 6 ∷ (lacksBeneath S b || lacks S s) ⇒ 9 ∷ []
-checks S (clear s) = badLength S ⇒ 21 ∷ noFrame S ⇒ 6 ∷ lacks S s ⇒ 9 ∷ []
-checks S (load s w t) = badLength S ⇒ 21 ∷ noFrame S ⇒ 6 ∷ (lacks S s || lacks S t) ⇒ 9 ∷ eqb (slot S s) 0 ⇒ 14 ∷ noWord S s w ⇒ 15 ∷ isData S s w ⇒ 16 ∷ []
+    badLength S yields 21 ∷ noFrame S yields 6 ∷ lacks S s yields 9 ∷ dead S r yields 2 ∷ (eqb k 0 || ltb (kindCount (kinds S)) k) yields 12
+    ∷ (not (roomy S (entryOf (regions S) r) (size S k)) && eqb (pagesOf (pages S) 0) 0) yields 13 ∷ []
+checks S (first s r) = badLength S yields 21 ∷ noFrame S yields 6 ∷ lacks S s yields 9 ∷ dead S r yields 2 ∷ []
+checks S (copy s t) = badLength S yields 21 ∷ noFrame S yields 6 ∷ (lacks S s || lacks S t) yields 9 ∷ []
+checks S (fetch b s) = badLength S yields 21 ∷ oneFrame S yields 6 ∷ (lacksBeneath S b || lacks S s) yields 9 ∷ []
+checks S (clear s) = badLength S yields 21 ∷ noFrame S yields 6 ∷ lacks S s yields 9 ∷ []
+checks S (load s w t) = badLength S yields 21 ∷ noFrame S yields 6 ∷ (lacks S s || lacks S t) yields 9 ∷ eqb (slot S s) 0 yields 14 ∷ noWord S s w yields 15 ∷ isData S s w yields 16 ∷ []
 checks S (setPointer s w v) =
-    badLength S ⇒ 21 ∷ noFrame S ⇒ 6 ∷ (lacks S s || lacks S v) ⇒ 9 ∷ eqb (slot S s) 0 ⇒ 14 ∷ noWord S s w ⇒ 15 ∷ isData S s w ⇒ 16
-    ∷ breaks S (slot S s) w (slot S v) ⇒ 17 ∷ []
-checks S (put s w x) = badLength S ⇒ 21 ∷ noFrame S ⇒ 6 ∷ lacks S s ⇒ 9 ∷ eqb (slot S s) 0 ⇒ 14 ∷ noWord S s w ⇒ 15 ∷ not (isData S s w) ⇒ 16 ∷ []
-checks S (get s w) = badLength S ⇒ 21 ∷ noFrame S ⇒ 6 ∷ lacks S s ⇒ 9 ∷ eqb (slot S s) 0 ⇒ 14 ∷ noWord S s w ⇒ 15 ∷ not (isData S s w) ⇒ 16 ∷ []
-checks S (view s) = badLength S ⇒ 21 ∷ noFrame S ⇒ 6 ∷ lacks S s ⇒ 9 ∷ eqb (slot S s) 0 ⇒ 14 ∷ not (allData S s) ⇒ 16 ∷ []
-checks S (same s t) = badLength S ⇒ 21 ∷ noFrame S ⇒ 6 ∷ (lacks S s || lacks S t) ⇒ 9 ∷ []
-checks S (about s) = badLength S ⇒ 21 ∷ noFrame S ⇒ 6 ∷ lacks S s ⇒ 9 ∷ []
-checks S (report r) = badLength S ⇒ 21 ∷ dead S r ⇒ 2 ∷ []
+    badLength S yields 21 ∷ noFrame S yields 6 ∷ (lacks S s || lacks S v) yields 9 ∷ eqb (slot S s) 0 yields 14 ∷ noWord S s w yields 15 ∷ isData S s w yields 16
+    ∷ breaks S (slot S s) w (slot S v) yields 17 ∷ []
+checks S (put s w x) = badLength S yields 21 ∷ noFrame S yields 6 ∷ lacks S s yields 9 ∷ eqb (slot S s) 0 yields 14 ∷ noWord S s w yields 15 ∷ not (isData S s w) yields 16 ∷ []
+checks S (get s w) = badLength S yields 21 ∷ noFrame S yields 6 ∷ lacks S s yields 9 ∷ eqb (slot S s) 0 yields 14 ∷ noWord S s w yields 15 ∷ not (isData S s w) yields 16 ∷ []
+checks S (view s) = badLength S yields 21 ∷ noFrame S yields 6 ∷ lacks S s yields 9 ∷ eqb (slot S s) 0 yields 14 ∷ not (allData S s) yields 16 ∷ []
+checks S (same s t) = badLength S yields 21 ∷ noFrame S yields 6 ∷ (lacks S s || lacks S t) yields 9 ∷ []
+checks S (about s) = badLength S yields 21 ∷ noFrame S yields 6 ∷ lacks S s yields 9 ∷ []
+checks S (report r) = badLength S yields 21 ∷ dead S r yields 2 ∷ []
 checks S totals = []
 checks S audit = []
--- 19: the stored count has the outside pointers in words and counted frames, and the look finds the rest
+-- 19: the stored count has the outside pointers in words and counted frames, and the look finds the rest. On audited memory the two are just those that there are
 checks S (delete r) =
-    badLength S ⇒ 21 ∷ dead S r ⇒ 2 ∷ eqb r 1 ⇒ 3 ∷ not (eqb (subregionsOf (regions S) (tagOf (regions S) r)) 0) ⇒ 18
-    ∷ (not (eqb (countAt (regions S) (entryOf (regions S) r)) 0) || ledInto S (tagOf (regions S) r)) ⇒ 19 ∷ []
+    badLength S yields 21 ∷ dead S r yields 2 ∷ eqb r 1 yields 3 ∷ not (eqb (subregionsOf (regions S) (tagOf (regions S) r)) 0) yields 18
+    ∷ (not (eqb (countAt (regions S) (entryOf (regions S) r)) 0) || ledInto S (tagOf (regions S) r)) yields 19 ∷ []
 
 unfoldable pub refusal : Store → Call → ℕ
 refusal S c = reason (checks S c)
@@ -151,25 +152,29 @@ pointed S v w x =
 abbrev pub Chosen : Store → ℕ → ℕ → ℕ → Type 0
 Chosen S i n j = pick (roomy S i n) (eqb (newestAt (regions S) i) (j + 1)) (isFree (pages S) j) ≡ true
 
+-- how many words of page j stand in front of an object of kind k made there: those taken of the newest page, none of a page that was free
+abbrev pub startOn : Store → ℕ → ℕ → ℕ → ℕ
+startOn S i k j = pick (roomy S i (size S k)) (takenAt (pages S) j) 0
+
 -- an object of kind k made on page j for the region at entry i and put in slot s: header, words 0, no other heap word (document 01, Allocate)
 unfoldable pub allocated : Store → ℕ → ℕ → ℕ → ℕ → Store
 allocated S s i k j =
-    let start = pick (roomy S i (size S k)) (takenAt (pages S) j) 0 in
+    let start = startOn S i k j in
     let v = 64 * j + start + 1 in
     let o = oldestAt (regions S) i in
     let T = withHeap S (sets (S .heap) (64 * j + start) (k ∷ replicate (sizeOf (kinds S) k) 0)) in
     let U = withPages T (withTaken (pages S) j (i + 1) (start + size S k)) in
     fillSlot (withRegions U (withPage (regions S) i (j + 1) (pick (eqb o 0) v o))) s v
 
--- the words marked 1 of a region's pages leave the counts of the other regions, the frames below the top that were not counted enter them,
--- the pages are free, the entry is given up, m is raised; the heap stays (document 01, Delete)
+-- the regions that the words marked 1 on the pages of the region with tag t lead into, but for that region itself
 unfoldable pub outgoing : Store → ℕ → List ℕ
-outgoing S t =
-    keep (λ u. not (eqb u t)) (map (ownerOf (pages S)) (joined (freeWordsOn (kinds S) (S .heap) (pages S)) (keep (λ j. eqb (ownerAt (pages S) j) t) (upTo (pageCount (pages S))))))
+outgoing S t = outOf ((pages S) .owners) t (joined (freeWordsOn (kinds S) (S .heap) (pages S)) (keep (λ j. eqb (ownerAt (pages S) j) t) (upTo (pageCount (pages S)))))
 
+-- the regions that the slots of the frames lead into that are counted once m is raised: those below the top that were not
 unfoldable pub newlyCounted : Store → List ℕ
 newlyCounted S = let m = (frames S) .counted in joined (slotTargets S) (from m (frameCount (frames S) - 1 - m))
 
+-- the outgoing pointers leave the counts, those newly counted enter them, the pages are free, the entry is given up, m is raised; the heap stays (document 01, Delete)
 unfoldable pub deleted : Store → ℕ → Store
 deleted S r =
     let t = tagOf (regions S) r in
@@ -182,7 +187,10 @@ deleted S r =
 abbrev pub Leaves : Answer → Answer → Store → Store → Type 0
 Leaves a b T U = (a ≡ b) × (T ≡ U)
 
--- view hands back the part of the heap that holds the object's words
+-- view's answer: the number of the check beside it, and the part that it hands back; accepted, the part of the heap that holds the object's words (document 01, View)
+abbrev pub viewAnswer : Store → ℕ → List ℕ → Answer
+viewAnswer S s p = record { refusal = refusal S (view s); values = four []; part = p }
+
 abbrev pub viewed : Store → ℕ → Answer
 viewed S v = record { refusal = 0; values = four []; part = take (wordCount (kinds S) (S .heap) v) (drop v (S .heap)) }
 
@@ -231,7 +239,7 @@ Outcome c S a T = Answered (refusal S c) c S a T
 
 -- ---- make
 
--- a state with n pages made, all free, and region 1 named r (0: no region)
+-- a state with n pages made, all free, and region 1 if r is 1; with none if r is 0
 unfoldable pub blank : ℕ → ℕ → State
 blank n r = record {
   frames = record { standing = 0; counted = 0; widths = replicate 32 0; slots = replicate 256 0 };

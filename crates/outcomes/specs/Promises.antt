@@ -1,4 +1,4 @@
--- What every call promises whatever it is asked and whatever memory it is given: demand 1's part on answers and words. Each is a type; Laws has the proofs.
+-- What every call promises, whatever it is asked: demand 1's part on answers and words, of every memory but where `Sound` or `Shaped` is asked. Each is a type; Laws has the proofs.
 -- Assumes nothing.
 use mathlib.Core.Path.{_≡_}
 use mathlib.Core.Logic.{_⊎_, _↔_, _≢_}
@@ -9,11 +9,12 @@ use lib.ListN.{length, getD}
 use Rattle.lists.specs.Lists.{All}
 use Rattle.model.specs.Model.{Answer, Call, declare, newRegion, subregion, push, dropFrame, handBack, allocate, first, copy, fetch, clear, load, setPointer, put, get, view, same, about, report, totals, audit, delete, gives, refusedBy}
 use Rattle.model.specs.Calls.{makes}
-use Rattle.outcomes.specs.Store.{Store, slot, size}
+use Rattle.regions.specs.Regions.{entryOf}
+use Rattle.outcomes.specs.Store.{Store, regions, slot, size}
 use Rattle.outcomes.specs.History.{History, begin}
 use Rattle.outcomes.specs.Sound.{Sound}
 use Rattle.outcomes.specs.Shape.{Shaped}
-use Rattle.outcomes.specs.Outcome.{Outcome, MakeOutcome, refusal, badLength, store}
+use Rattle.outcomes.specs.Outcome.{Outcome, MakeOutcome, refusal, badLength, store, startOn, allocated}
 
 -- every call has an outcome on every memory
 unfoldable pub Total : Type 0
@@ -35,7 +36,7 @@ LengthFirst =
 unfoldable pub SameLength : Type 0
 SameLength = (c : Call) (S : Store) (a : Answer) (T : Store) → Outcome c S a T → length (T .heap) ≡ length (S .heap)
 
--- the heap words that a call may write, from S to T: those of the object that allocate makes, and the word that set pointer or put names
+-- the heap words that a call may write, from S to T: header and words of the object that allocate makes, on the page j that it took, and the word that set pointer or put names
 abbrev pub Named : Call → Store → Store → ℕ → Type 0
 Named (declare ms) S T p = ⊥
 Named newRegion S T p = ⊥
@@ -43,7 +44,9 @@ Named (subregion r) S T p = ⊥
 Named (push n) S T p = ⊥
 Named dropFrame S T p = ⊥
 Named (handBack s b) S T p = ⊥
-Named (allocate s r k) S T p = (slot T s ≤ p + 1) × (p + 1 < slot T s + size S k)
+Named (allocate s r k) S T p =
+    let i = entryOf (regions S) r in
+    (j : ℕ) × (T ≡ allocated S s i k j) × (64 * j + startOn S i k j ≤ p) × (p < 64 * j + startOn S i k j + size S k)
 Named (first s r) S T p = ⊥
 Named (copy s t) S T p = ⊥
 Named (fetch b s) S T p = ⊥
@@ -62,10 +65,10 @@ Named (delete r) S T p = ⊥
 
 unfoldable pub OnlyNamed : Type 0
 OnlyNamed =
-    (c : Call) (S : Store) (a : Answer) (T : Store) → Sound S → Shaped S → Outcome c S a T
+    (c : Call) (S : Store) (a : Answer) (T : Store) → Outcome c S a T
     → (p : ℕ) → (getD (T .heap) p 0 ≡ getD (S .heap) p 0) ⊎ Named c S T p
 
--- an outcome is a value of the language's types: numbers stay below their width. Of the arguments only put's value goes into the memory as it is
+-- an outcome is a value of the language's types: numbers stay below their width. Of the arguments only put's value goes in unchecked
 unfoldable pub KeepsShape : Type 0
 KeepsShape =
     (c : Call) (S : Store) (a : Answer) (T : Store) → ((s w x : ℕ) → c ≡ put s w x → x < 4294967296) → Shaped S → Outcome c S a T

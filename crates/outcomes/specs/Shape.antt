@@ -1,4 +1,4 @@
--- What the types of the language give of every memory: the lengths of the arrays, and the size of each number.
+-- What the types of the language give of every memory: the lengths of the arrays, and the size of each number. The contract of audit says that every memory is so.
 -- Assumes nothing.
 use mathlib.Core.Path.{_≡_}
 use mathlib.Core.List.{List}

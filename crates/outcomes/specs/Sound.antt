@@ -55,19 +55,19 @@ pub record Sound (S : Store) : Type 0 where
   pub widths : every (within 1 8) (listedFrames S) ≡ true
   pub levels : every (λ i. leb (levelAt (regions S) i) 16) (entries S) ≡ true
   pub given : leb ((regions S) .given) 1000000 ≡ true
-  -- m is below the number of frames, or 0 with none
+  -- m: the top frame is not counted
   pub counted : leb ((frames S) .counted) ((frames S) .standing - 1) ≡ true
-  -- the heap's length is the one made
+  -- the length that was made
   pub heapLength : eqb (length (S .heap)) (64 * (pages S) .made) ≡ true
-  -- live names are distinct and already given, region 1 among them
+  -- names: no two the same, none that was not given, and region 1 lives
   pub distinct : every (λ i. eqb (times (nameAt (regions S) i) (map (nameAt (regions S)) (entries S))) 1) (entries S) ≡ true
   pub past : every (λ i. leb (nameAt (regions S) i) ((regions S) .given)) (entries S) ≡ true
   pub one : among 1 (map (nameAt (regions S)) (entries S)) ≡ true
-  -- each region above lives, at one level less; with none above, as region 1, the level is 1
+  -- the tree: see `placed`
   pub parents : every (placed S) (entries S) ≡ true
-  -- objects fill each held page from its start without gaps
+  -- no gap on a held page: see `filled`
   pub filling : every (filled S) (listedHeld S) ≡ true
-  -- each region's newest page and oldest object, where it has them, are its own
+  -- newest pages and oldest objects belong to their regions
   pub newest : every (newestOwn S) (entries S) ≡ true
   pub oldest : every (oldestOwn S) (entries S) ≡ true
   -- the state keeps no number a second time

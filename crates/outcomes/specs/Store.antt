@@ -1,4 +1,4 @@
--- The memory that a call works on, and what document 01's words mean of it, region by region entry. In memory that the audit rejects names can repeat,
+-- The memory that a call works on, and what document 01's words mean of it. In memory that the audit rejects names can repeat,
 -- so a region is known here by its tag (its entry plus 1, 0 for none); on audited memory tags and names go together.
 -- Assumes nothing.
 use mathlib.Core.Bool.{Bool, not, _||_}

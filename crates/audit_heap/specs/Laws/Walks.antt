@@ -9,7 +9,8 @@ use lib.ListN.{getD}
 use Rattle.kinds.specs.declared.Kinds.{Kinds}
 use Rattle.kinds.specs.Kinds.{sizeOf}
 use Rattle.objects.specs.Objects.{walk}
-use Rattle.objects.specs.Laws.Walk.{sizeIn, size-is, walk-next, walk-stop}
+use Rattle.objects.specs.Objects.{sizeIn}
+use Rattle.objects.specs.Laws.Walk.{size-is, walk-next, walk-stop}
 
 module _ (k : Kinds) (heap : List ℕ) (p e i : ℕ) where
   -- what is left to walk in turn i at place p

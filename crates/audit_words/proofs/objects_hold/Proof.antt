@@ -44,7 +44,7 @@ next c =
     let e = 64 * a .j + t .taken-at .result in
     let f : ℕ → Bool = objectHolds (a .k) (a .heap .now) (a .g) (a .p) (a .own) (a .above) in
     let n = left-next (a .k) (a .heap .now) (l .loop .at) e (l .loop .i) _ (z .size-in .ensures) (c .before .before .before .if1 .left) (omega arith) in
-    let o = object-words (a .k) (a .heap .now) (a .g) (a .p) (a .own) (a .above) (l .loop .at) _ _ _ (n .1) (c .before .before .word .ensures) (c .before .part .ensures) in
+    let o = object-words (a .k) (a .heap .now) (a .g) (a .p) (a .own) (a .above) (l .loop .at) _ _ _ (n .1) (c .before .before .word .ensures) (c .before .words .ensures) in
     (n .0, ap (every f) (n .2) ∙ ap (λ b. b && every f (left (a .k) (a .heap .now) (l .loop .at + 1 + z .size-in .result) e (l .loop .i + 1))) (o ∙ sym (c .words-hold .ensures)))
 
 returns : tie.Need-returns Inv-loop μ-loop

@@ -43,7 +43,7 @@ returns-4 c =
     let t = o .before .before .before .before in
     let x = t .before .before in
     let a = x .before .before .before .args in
-    c .keeps-rule .ensures
+    c .allows .ensures
     ∙ ap (λ n. rule (a .m) n (a .own) (a .above)) (c .before .name-of .ensures ∙ ap (nameOf (a .g)) (o .owner-of .ensures))
     ∙ by-rule (a .k) (a .heap .now) (a .g) (a .t4) (a .own) (a .above) (a .m) (a .x) (ne-eqb _ _ (x .before .if1 .left)) (ne-eqb _ _ (x .if2 .left)) (sym (t .before .stands-at .ensures) ∙ not-false (t .before .stands-at .result) (t .if3 .left))
 

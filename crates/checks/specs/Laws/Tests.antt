@@ -14,7 +14,7 @@ use Rattle.lists.specs.Laws.Tests.{by-test}
 use Rattle.lists.specs.Laws.Finds.{all-find}
 use Rattle.lists.specs.Laws.UpTo.{all-upTo}
 use Rattle.model.specs.Model.{Answer, Call, gives, refusedBy}
-use Rattle.model.specs.Calls.{reason, _⇒_}
+use Rattle.model.specs.Calls.{reason, _yields_}
 use Rattle.frames.specs.Frames.{topFrame, widthAt}
 use Rattle.regions.specs.declared.Regions.{Regions}
 use Rattle.regions.specs.Regions.{nameAt, entryOf, isLive}
@@ -31,19 +31,19 @@ or-same false = refl
 
 module _ (S : Store) (rest : List (Bool × ℕ)) where
   -- a call that begins with one slot of the top frame, with two, with one of each of the two upper frames, with a region's name
-  pub one-slot : (s : ℕ) → reason (badLength S ⇒ 21 ∷ noFrame S ⇒ 6 ∷ lacks S s ⇒ 9 ∷ rest) ≡ orElse (reason (topTests (pages S) (length (S .heap)) (frames S) s s)) (reason rest)
+  pub one-slot : (s : ℕ) → reason (badLength S yields 21 ∷ noFrame S yields 6 ∷ lacks S s yields 9 ∷ rest) ≡ orElse (reason (topTests (pages S) (length (S .heap)) (frames S) s s)) (reason rest)
   unfolding topTests badLength noFrame lacks
-  one-slot s = ap (λ b. reason (badLength S ⇒ 21 ∷ noFrame S ⇒ 6 ∷ b ⇒ 9 ∷ rest)) (sym (or-same (lacks S s))) ∙ reason-append (topTests (pages S) (length (S .heap)) (frames S) s s) rest refl
+  one-slot s = ap (λ b. reason (badLength S yields 21 ∷ noFrame S yields 6 ∷ b yields 9 ∷ rest)) (sym (or-same (lacks S s))) ∙ reason-append (topTests (pages S) (length (S .heap)) (frames S) s s) rest refl
 
-  pub two-slots : (s t : ℕ) → reason (badLength S ⇒ 21 ∷ noFrame S ⇒ 6 ∷ (lacks S s || lacks S t) ⇒ 9 ∷ rest) ≡ orElse (reason (topTests (pages S) (length (S .heap)) (frames S) s t)) (reason rest)
+  pub two-slots : (s t : ℕ) → reason (badLength S yields 21 ∷ noFrame S yields 6 ∷ (lacks S s || lacks S t) yields 9 ∷ rest) ≡ orElse (reason (topTests (pages S) (length (S .heap)) (frames S) s t)) (reason rest)
   unfolding topTests badLength noFrame lacks
   two-slots s t = reason-append (topTests (pages S) (length (S .heap)) (frames S) s t) rest refl
 
-  pub slot-beneath : (s b : ℕ) → reason (badLength S ⇒ 21 ∷ oneFrame S ⇒ 6 ∷ (lacks S s || lacksBeneath S b) ⇒ 9 ∷ rest) ≡ orElse (reason (beneathTests (pages S) (length (S .heap)) (frames S) s b)) (reason rest)
+  pub slot-beneath : (s b : ℕ) → reason (badLength S yields 21 ∷ oneFrame S yields 6 ∷ (lacks S s || lacksBeneath S b) yields 9 ∷ rest) ≡ orElse (reason (beneathTests (pages S) (length (S .heap)) (frames S) s b)) (reason rest)
   unfolding beneathTests badLength oneFrame lacks lacksBeneath
   slot-beneath s b = reason-append (beneathTests (pages S) (length (S .heap)) (frames S) s b) rest refl
 
-  pub one-region : (r : ℕ) → reason (badLength S ⇒ 21 ∷ dead S r ⇒ 2 ∷ rest) ≡ orElse (reason (regionTests (pages S) (length (S .heap)) (entryOf (regions S) r))) (reason rest)
+  pub one-region : (r : ℕ) → reason (badLength S yields 21 ∷ dead S r yields 2 ∷ rest) ≡ orElse (reason (regionTests (pages S) (length (S .heap)) (entryOf (regions S) r))) (reason rest)
   unfolding regionTests badLength dead isLive
   one-region r = reason-append (regionTests (pages S) (length (S .heap)) (entryOf (regions S) r)) rest refl
 

@@ -39,7 +39,7 @@ adds c =
     let l = z .before .before in
     let a = l .before .before .before .args in
     let f : ℕ → Bool = leads (a .owners .now) (a .tag) in
-    let o = words-next (a .k) (a .heap .now) (l .loop .at) (64 * a .j + a .n) (64 - l .loop .i) (64 - (l .loop .i + 1)) _ _ _ (omega arith) (z .size-in .ensures) (c .before .before .before .if1 .left) (c .before .before .word .ensures) (c .before .part .ensures) in (
+    let o = words-next (a .k) (a .heap .now) (l .loop .at) (64 * a .j + a .n) (64 - l .loop .i) (64 - (l .loop .i + 1)) _ _ _ (omega arith) (z .size-in .ensures) (c .before .before .before .if1 .left) (c .before .before .word .ensures) (c .before .words .ensures) in (
       rw (c .words-into .ensures) (marked-most (a .k) _ _ f (z .size-in .result)),
       o .0,
       rw (c .words-into .ensures, o .1, sum-append (λ v. bit (f v))),

@@ -35,7 +35,7 @@ leaves c =
     let z = c .before .before .before .before in
     let l = z .before .before in
     let a = l .before .before .before .args in
-    let o = words-next (a .k) (a .heap .now) (l .loop .at) (64 * a .j + a .n) (64 - l .loop .i) (64 - (l .loop .i + 1)) _ _ _ (omega arith) (z .size-in .ensures) (c .before .before .before .if1 .left) (c .before .before .word .ensures) (c .before .part .ensures) in
+    let o = words-next (a .k) (a .heap .now) (l .loop .at) (64 * a .j + a .n) (64 - l .loop .i) (64 - (l .loop .i + 1)) _ _ _ (omega arith) (z .size-in .ensures) (c .before .before .before .if1 .left) (c .before .before .word .ensures) (c .before .words .ensures) in
     (o .0, rw (c .leave-words .ensures, o .1) (left-left (a .owners .now) (a .own) (l .loop .c) _ _))
 
 loop-again : tie.Need-loop-again Inv-loop μ-loop

@@ -8,7 +8,8 @@ use borrow.Author.Needs.{needs}
 use Rattle.regions.specs.Regions.{moved}
 use Rattle.regions.specs.Laws.Counts.{fits-counts, moved-none}
 use Rattle.objects.specs.Objects.{outOf}
-use Rattle.objects.specs.Laws.Words.{marked, marked-one, marked-not}
+use Rattle.objects.specs.Objects.{marked}
+use Rattle.objects.specs.Laws.Words.{marked-one, marked-not}
 use Rattle.objects.specs.Laws.Leaving.{left-left}
 use Rattle.objects.proofs.leave_words.Statement.{statement}
 use Rattle.objects.proofs.leave_words.Tie as tie

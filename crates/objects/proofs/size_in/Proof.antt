@@ -2,7 +2,7 @@ use Prim.Native.Nat.{_+_}
 use native.Mathlib.Omega.{arith}
 use borrow.Author.Needs.{needs}
 use borrow.Author.Tests.{le-leb, lt-leb}
-use Rattle.objects.specs.Laws.Walk.{sizeIn}
+use Rattle.objects.specs.Objects.{sizeIn}
 use Rattle.objects.proofs.size_in.Statement.{statement}
 use Rattle.objects.proofs.size_in.Tie as tie
 

@@ -11,7 +11,8 @@ use borrow.Author.Tests.{eq-eqb, ne-eqb}
 use Rattle.lists.specs.Lists.{bit, pick, count}
 use Rattle.kinds.specs.Kinds.{markAt}
 use Rattle.pages.specs.Pages.{ownerIn}
-use Rattle.objects.specs.Laws.Words.{marked, marked-count, marked-most}
+use Rattle.objects.specs.Objects.{marked}
+use Rattle.objects.specs.Laws.Words.{marked-count, marked-most}
 use Rattle.objects.proofs.words_into.Statement.{statement}
 use Rattle.objects.proofs.words_into.Tie as tie
 

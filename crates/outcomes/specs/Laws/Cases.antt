@@ -9,7 +9,7 @@ use lib.ListN.{length, take, drop}
 use Rattle.lists.specs.Lists.{bit, every}
 use Rattle.model.specs.Model.{push, fetch, load, put, get, view}
 use Rattle.frames.specs.Frames.{frameCount, topFrame, widthAt, slotAt, putSlot, pushed, uncounts, popped}
-use Rattle.kinds.specs.Kinds.{kindCount, sizeOf, markAt}
+use Rattle.kinds.specs.Kinds.{kindCount, sizeOf, markAt, allData as onlyData}
 use Rattle.regions.specs.Regions.{nameAt, nameOf, entryOf, parentAt, oldestAt, countAt, moved, rolled, withCounts}
 use Rattle.pages.specs.Pages.{pageCount, ownerAt, ownerIn, ownerOf, pagesOf, wrongLength}
 use Rattle.objects.specs.Objects.{kindOf, wordCount, markOf, wordAt}
@@ -58,5 +58,5 @@ cases =
     ∷ []
 
 pub computed : every (λ p. eqb (p .0) (p .1)) cases ≡ true
-unfolding frameCount topFrame widthAt slotAt putSlot pushed uncounts popped kindCount sizeOf markAt nameAt nameOf entryOf parentAt oldestAt countAt moved rolled withCounts pageCount ownerAt ownerIn ownerOf pagesOf wrongLength kindOf wordCount markOf wordAt slot slotTargets breaks badLength noFrame oneFrame lacks lacksBeneath noWord isData allData checks refusal fillSlot writeWord recounted countedIn popFrame pointed
+unfolding frameCount topFrame widthAt slotAt putSlot pushed uncounts popped kindCount sizeOf markAt nameAt nameOf entryOf parentAt oldestAt countAt moved rolled withCounts pageCount ownerAt ownerIn ownerOf pagesOf wrongLength kindOf wordCount markOf wordAt slot slotTargets breaks badLength noFrame oneFrame lacks lacksBeneath noWord isData allData onlyData checks refusal fillSlot writeWord recounted countedIn popFrame pointed
 computed = refl

@@ -16,7 +16,7 @@ use Rattle.lists.specs.Laws.All.{all-map, all-set, all-replicate}
 use Rattle.lists.specs.Laws.Finds.{any-false}
 use Rattle.model.specs.Model.{Answer, Call, declare, newRegion, subregion, push, dropFrame, handBack, allocate, first, copy, fetch, clear, load, setPointer, put, get, view, same, about, report, totals, audit, delete, gives, refusedBy}
 use Rattle.frames.specs.Frames.{topFrame}
-use Rattle.kinds.specs.Kinds.{kindCount, sizeOf}
+use Rattle.kinds.specs.Kinds.{kindCount, sizeOf, wrongMarks}
 use Rattle.regions.specs.declared.Regions.{Regions}
 use Rattle.regions.specs.Regions.{entryOf, tagOf, isLive, newestAt, oldestAt, levelAt}
 use Rattle.pages.specs.Pages.{pageCount, isFree, takenAt}
@@ -161,7 +161,7 @@ audit-small S a h = go (sound-or-not S)
     go (inr n) = subst⁻¹ (λ x. Small (x .values)) (h .1 n) (one 0 (omega arith))
 
 accepted-keeps : (c : Call) (S : Store) (a : Answer) (T : Store) → ((s w x : ℕ) → c ≡ put s w x → x < 4294967296) → Shaped S → refusal S c ≡ 0 → Accepted c S a T → Shaped T × Small (a .values)
-unfolding Accepted checks namesOut
+unfolding Accepted checks namesOut wrongMarks
 accepted-keeps (declare ms) S a T x h e q =
     let t = passed S (declare ms) e in
     let d = leb-false 16 ((kinds S) .declared) (t .1 .1 .0) in

@@ -12,7 +12,7 @@ use borrow.Author.Tests.{eqb-true, eq-eqb, ne-eqb, leb-true}
 use Rattle.lists.specs.Lists.{pick, every}
 use Rattle.lists.specs.Laws.Tests.{both}
 use Rattle.model.specs.Model.{Answer, Call, declare, newRegion, subregion, push, dropFrame, handBack, allocate, first, copy, fetch, clear, load, setPointer, put, get, view, same, about, report, totals, audit, delete, refusedBy}
-use Rattle.model.specs.Calls.{reason, _⇒_}
+use Rattle.model.specs.Calls.{reason, _yields_}
 use Rattle.pages.specs.Pages.{wrongLength}
 use Rattle.outcomes.specs.Store.{Store, pages}
 use Rattle.outcomes.specs.Sound.{Sound}
@@ -24,7 +24,7 @@ use Rattle.outcomes.specs.Laws.Refused.{refusals}
 other : Bool × ℕ → Bool
 other t = not (eqb (t .1) 21)
 
-first-test : (S : Store) (c : Call) → c ≢ totals → c ≢ audit → (ts : List (Bool × ℕ)) × (checks S c ≡ badLength S ⇒ 21 ∷ ts) × (every other ts ≡ true)
+first-test : (S : Store) (c : Call) → c ≢ totals → c ≢ audit → (ts : List (Bool × ℕ)) × (checks S c ≡ badLength S yields 21 ∷ ts) × (every other ts ≡ true)
 unfolding checks other
 first-test S (declare ms) nt na = (_, refl, refl)
 first-test S newRegion nt na = (_, refl, refl)
@@ -71,7 +71,7 @@ length-first c S a T n m h = (
   (λ s e. never (f .0) (f .2) (sym (rest s) ∙ sym (refusals c S a T h .0) ∙ e)),
 )
   where
-    f : (ts : List (Bool × ℕ)) × (checks S c ≡ badLength S ⇒ 21 ∷ ts) × (every other ts ≡ true)
+    f : (ts : List (Bool × ℕ)) × (checks S c ≡ badLength S yields 21 ∷ ts) × (every other ts ≡ true)
     f = first-test S c n m
 
     at : badLength S ≡ true → reason (checks S c) ≡ 21

@@ -33,7 +33,7 @@ use Rattle.regions.specs.Laws.Removed.{name-removed, name-left, entry-left, tag
 use Rattle.pages.specs.declared.Pages.{Pages}
 use Rattle.pages.specs.Pages.{pageCount, ownerAt, ownerOf, freed}
 use Rattle.pages.specs.Laws.Gone.{gone-owner, gone-other, gone-pages, gone-held, gone-pointer, gone-free}
-use Rattle.objects.specs.Objects.{freeWordsOn}
+use Rattle.objects.specs.Objects.{freeWordsOn, outOf}
 use Rattle.outcomes.specs.Store.{Store, frames, kinds, regions, pages, slotTargets}
 use Rattle.outcomes.specs.Shape.{Shaped}
 use Rattle.outcomes.specs.Outcome.{Accepted, recounted, outgoing, newlyCounted, deleted}
@@ -207,7 +207,7 @@ module _ {L : Model} {sp : List ℕ} {ids : ℕ → List ℕ} (S : Store) (v : V
 
   -- what leaves it: the words of region r
   gone-are : (r : ℕ) → livesIn L r ≡ true → eqb q r ≡ false → times (tagOf (regions S) q) (outgoing S (tagOf (regions S) r)) ≡ fromRegion L r q
-  unfolding outgoing fromRegion
+  unfolding outgoing outOf ownerOf fromRegion
   gone-are r m n =
       let P = pages S in
       let t = tagOf (regions S) r in

@@ -21,6 +21,7 @@ use Rattle.model.specs.Valid.{Valid}
 use Rattle.model.specs.Laws.Slots.{held-lives}
 use Rattle.model.specs.Laws.Counts.{outside-stored}
 use Rattle.frames.specs.Frames.{widthAt, slotAt}
+use Rattle.kinds.specs.Kinds.{wrongMarks, allData as onlyData}
 use Rattle.regions.specs.Regions.{countAt, nameOf, entryOf, tagOf, parentAt, newestAt}
 use Rattle.pages.specs.Pages.{takenAt, ownerOf}
 use Rattle.outcomes.specs.Store.{Store, frames, kinds, regions, pages, slot as storeSlot, slotTargets, ledInto, breaks, roomy, size as storeSize}
@@ -28,7 +29,7 @@ use Rattle.outcomes.specs.Outcome.{checks as storeChecks, refusal as storeRefus
 use Rattle.refinement.specs.Represents.{Represents, RoomAgrees, spot}
 use Rattle.refinement.specs.Laws.Tags.{live-is, live-count, parent-name, subregions-are}
 use Rattle.refinement.specs.Laws.Counts.{slots-into}
-use Rattle.refinement.specs.Laws.Reads.{frame-count, top-width, beneath-width, kind-count, right-length, top-known, slot-is, sized-known, spot-zero, kind-is, size-is, mark-is, owner-name}
+use Rattle.refinement.specs.Laws.Reads.{frame-count, top-width, beneath-width, kind-count, right-length, top-known, slot-is, spot-zero, kind-is, size-is, mark-is, owner-name}
 
 -- the first tests agree, and the rest do where the first fails
 step : (a b : Bool) (n x y : ℕ) → a ≡ b → (b ≡ false → x ≡ y) → pick a n x ≡ pick b n y
@@ -92,9 +93,9 @@ module _ {L : Model} {sp : List ℕ} {ids : ℕ → List ℕ} {S : Store} (v : V
     data-is w n = rw (slot-is h s k) (ap (λ m. eqb m 0) (mark-is (h .onObjects) (h .onKinds) v (slot L s) w (top-known v s) (leb-false (length ((held L s) .words)) w n)))
 
     all-data : allData S s ≡ every (eqb 0) (heldMarks L s)
-    unfolding allData
+    unfolding allData onlyData
     all-data =
-        rw (slot-is h s k, kind-is (h .onObjects) (slot L s) (top-known v s), size-is (h .onObjects) (h .onKinds) v (slot L s) (top-known v s), sized-known v (slot L s) (top-known v s))
+        rw (slot-is h s k, kind-is (h .onObjects) (slot L s) (top-known v s), h .onKinds .sizes ((held L s) .kind))
         (every-same _ _ (upTo (length (heldMarks L s))) (all-upTo _ (length (heldMarks L s)) (λ w b. rw (h .onKinds .marked ((held L s) .kind) w b) (eqb-sym (markAt L s w) 0)))
         ∙ every-places (eqb 0) (heldMarks L s) 0)
 
@@ -181,7 +182,7 @@ module _ {L : Model} {sp : List ℕ} {ids : ℕ → List ℕ} {S : Store} (v : V
   get-agrees s w = rw right (slot-6-9 s (λ k. word-14-15 s w k (λ n o. end _ (not (eqb (markAt L s w) 0)) 16 (ap not (data-is s k w o)))))
 
   pub refusals-agree : (c : Call) → storeRefusal S c ≡ refusal L c
-  unfolding storeRefusal storeChecks refusal checks
+  unfolding storeRefusal storeChecks refusal checks wrongMarks
   refusals-agree (declare ms) = rw right (ap (λ n. pick (eqb (length ms) 0 || ltb 16 (length ms) || any (ltb 4) ms) 11 n) (end _ (leb 16 (length (L .kinds))) 10 (ap (leb 16) (h .onKinds .declared))))
   refusals-agree newRegion = rw right regions-4-5
   refusals-agree (subregion r) = rw right (step _ (dead L r) 2 _ _ (dead-is r)

@@ -88,7 +88,7 @@ returns-20 c = by-number _ _ _ _ _ _ _ _ 21 (c .before .before .match .keys20) (
 
 returns-21 : tie.Need-returns-21
 unfolding decoded
-returns-21 c = by-number _ _ _ _ _ _ _ _ 22 (c .before .before .before .match .keys21) (by-reply _ _ _ _ _ _ _ (c .unchanged8 .ensures) ([], c .before .audit .ensures))
+returns-21 c = by-number _ _ _ _ _ _ _ _ 22 (c .before .before .before .match .keys21) (by-reply _ _ _ _ _ _ _ (c .unchanged8 .ensures) ([], c .before .audit .ensures .0))
 
 returns-22 : tie.Need-returns-22
 unfolding decoded
