@@ -137,7 +137,7 @@ fn without(s: State, heap: &[u32], e: u32, t: u32) -> Done
     }
 }
 
-// Document 01's call 23.
+// Document 01's call 23: the region goes, with its objects and pages.
 pub fn delete(s: State, heap: &[u32], region: u32) -> Done
     ensures { λ r. ⌜ Outcome (delete region) (store s (now (heap .entry))) (answerOf (r .reply) []) (store (r .state) (now (heap .entry))) ⌝ }
 {

@@ -218,7 +218,7 @@ fn free_place(p: Pages) -> u32
 }
 
 // A pointer to the place of the next object of n words, its header too, of the region at entry e; 0 where no page has room.
-// 4194240 is the last word of page 65,534, the last that `newest` can name.
+// 4194240 is a pointer to the last word of page 65,534, the last that `newest` can name.
 fn place_for(r: Regions, p: Pages, e: u32, n: u32) -> u32
     requires { ⌜ (0 < n) × (n ≤ 17) ⌝ }
     ensures { λ v. ⌜ (v ≡ placeFor r p e n) × (v ≤ 4194240) ⌝ }

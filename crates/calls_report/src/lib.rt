@@ -72,7 +72,7 @@ fn words_into(k: Kinds, heap: &[u32], p: Pages, tag: u32) -> u32
     sum
 }
 
-// Document 01's call 20.
+// Document 01's call 20: stored count, outside pointers, pages held and live subregions of a region.
 pub fn report(s: State, heap: &[u32], region: u32) -> Reply
     ensures { λ r. ⌜ Outcome (report region) (store s (now (heap .entry))) (answerOf r []) (store s (now (heap .entry))) ⌝ }
 {

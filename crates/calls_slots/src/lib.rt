@@ -25,7 +25,7 @@ pub fn first(s: State, heap: &[u32], slot: u32, region: u32) -> Done
     checks::filled(s, slot, regions::oldest_at(e, i))
 }
 
-// Document 01's call 10.
+// Document 01's call 10: slot `to` gets what slot `from` holds.
 pub fn copy(s: State, heap: &[u32], from: u32, to: u32) -> Done
     ensures { λ r. ⌜ Outcome (copy from to) (store s (now (heap .entry))) (answerOf (r .reply) []) (store (r .state) (now (heap .entry))) ⌝ }
 {
@@ -51,7 +51,7 @@ pub fn fetch(s: State, heap: &[u32], from: u32, to: u32) -> Done
     checks::filled(s, to, checks::beneath_slot(f, from))
 }
 
-// Document 01's call 12.
+// Document 01's call 12: the slot becomes null.
 pub fn clear(s: State, heap: &[u32], slot: u32) -> Done
     ensures { λ r. ⌜ Outcome (clear slot) (store s (now (heap .entry))) (answerOf (r .reply) []) (store (r .state) (now (heap .entry))) ⌝ }
 {
@@ -64,7 +64,7 @@ pub fn clear(s: State, heap: &[u32], slot: u32) -> Done
     checks::filled(s, slot, 0)
 }
 
-// Document 01's call 18.
+// Document 01's call 18: 1 if two slots hold one pointer, or both null; else 0.
 pub fn same(s: State, heap: &[u32], a: u32, b: u32) -> Reply
     ensures { λ r. ⌜ Outcome (same a b) (store s (now (heap .entry))) (answerOf r []) (store s (now (heap .entry))) ⌝ }
 {
@@ -82,7 +82,7 @@ pub fn same(s: State, heap: &[u32], a: u32, b: u32) -> Reply
     checks::gives(0, 0, 0, 0)
 }
 
-// Document 01's call 19.
+// Document 01's call 19: region and kind of the object in the slot, zeros for null.
 pub fn about(s: State, heap: &[u32], slot: u32) -> Reply
     ensures { λ r. ⌜ Outcome (about slot) (store s (now (heap .entry))) (answerOf r []) (store s (now (heap .entry))) ⌝ }
 {

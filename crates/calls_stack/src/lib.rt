@@ -30,7 +30,7 @@ fn push_refusal(p: Pages, n: usize, f: Frames, slots: u32) -> u32
     0
 }
 
-// Document 01's call 5.
+// Document 01's call 5: a frame of null slots on top.
 pub fn push(s: State, heap: &[u32], slots: u32) -> Done
     ensures { λ r. ⌜ Outcome (push slots) (store s (now (heap .entry))) (answerOf (r .reply) []) (store (r .state) (now (heap .entry))) ⌝ }
 {
@@ -86,7 +86,7 @@ fn drop_refusal(p: Pages, n: usize, f: Frames) -> u32
     0
 }
 
-// Document 01's call 6.
+// Document 01's call 6: the top frame goes.
 pub fn drop(s: State, heap: &[u32]) -> Done
     ensures { λ r. ⌜ Outcome dropFrame (store s (now (heap .entry))) (answerOf (r .reply) []) (store (r .state) (now (heap .entry))) ⌝ }
 {

@@ -70,7 +70,7 @@ fn data_refusal(s: State, heap: &[u32], slot: u32, w: u32) -> u32
     0
 }
 
-// Document 01's call 13.
+// Document 01's call 13: slot `to` gets the pointer in a word.
 pub fn load(s: State, heap: &[u32], slot: u32, w: u32, to: u32) -> Done
     ensures { λ r. ⌜ Outcome (load slot w to) (store s (now (heap .entry))) (answerOf (r .reply) []) (store (r .state) (now (heap .entry))) ⌝ }
 {
@@ -97,7 +97,7 @@ pub fn put(s: State, heap: &mut [u32], slot: u32, w: u32, value: u32) -> Reply
     checks::gives(0, 0, 0, 0)
 }
 
-// Document 01's call 16.
+// Document 01's call 16: what a data word holds.
 pub fn get(s: State, heap: &[u32], slot: u32, w: u32) -> Reply
     ensures { λ r. ⌜ Outcome (get slot w) (store s (now (heap .entry))) (answerOf r []) (store s (now (heap .entry))) ⌝ }
 {
@@ -219,7 +219,7 @@ fn recount(s: State, heap: &[u32], v: u32, w: u32, x: u32) -> State
     t
 }
 
-// Document 01's call 14.
+// Document 01's call 14: a pointer word gets what slot `value` holds, and the counts follow.
 pub fn set_pointer(s: State, heap: &mut [u32], slot: u32, w: u32, value: u32) -> Done
     ensures { λ r. ⌜ Outcome (setPointer slot w value) (store s (now (heap .entry))) (answerOf (r .reply) []) (store (r .state) (now (heap .exit))) ⌝ }
 {

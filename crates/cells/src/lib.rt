@@ -50,14 +50,6 @@ pub fn store_byte(s: &mut [u8], i: usize, v: u8)
 }
 
 // An array by value with one element replaced.
-pub fn put256(a: [u32; 256], i: usize, v: u32) -> [u32; 256]
-    ensures { λ r. ⌜ r ≡ set a i v ⌝ }
-{
-    let mut b = a;
-    store(&mut b, i, v);
-    b
-}
-
 pub fn put64(a: [u32; 64], i: usize, v: u32) -> [u32; 64]
     ensures { λ r. ⌜ r ≡ set a i v ⌝ }
 {

@@ -122,7 +122,7 @@ withObjects L os = record { free = L .free; kinds = L .kinds; regions = L .regio
 unfoldable pub fillSlot : Model → ℕ → ℕ → Model
 fillSlot L s p = withFrames L (set (L .frames) (last (L .frames)) (set (top L) s p)) (L .counted)
 
--- the top frame goes, and m falls by one if the frame that is then on top was counted (document 01, The store)
+-- the top frame goes and n stay: the new top is frame n - 1, counted if n is at most m, and m then falls by one; with no frame left m was 0 (document 01, The store)
 unfoldable pub popFrame : Model → Model
 popFrame L =
     let n = last (L .frames) in

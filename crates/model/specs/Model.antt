@@ -146,7 +146,7 @@ markAt L s w = getD (heldMarks L s) w 0
 abbrev pub into : (ℕ → ℕ) → ℕ → ℕ → ℕ
 into home r p = bit (eqb (home p) r)
 
--- all slots of the frames fs that lead into r
+-- how many slots of the frames fs lead into r
 unfoldable pub inFrames : (ℕ → ℕ) → ℕ → List (List ℕ) → ℕ
 inFrames home r fs = sum (sum (into home r)) fs
 
@@ -154,7 +154,7 @@ inFrames home r fs = sum (sum (into home r)) fs
 abbrev pub freeInto : (ℕ → ℕ) → ℕ → ℕ → ℕ → ℕ
 freeInto home r k p = pick (eqb k 1) (into home r p) 0
 
--- the words of object o: none if it is dead or of region r itself
+-- how many words of object o lead into r: none if it is dead or of region r itself
 unfoldable pub fromObject : (ℕ → Bool) → (ℕ → ℕ) → List (List ℕ) → ℕ → Object → ℕ
 fromObject lives home ks r o = pick (lives (o .home) && not (eqb (o .home) r)) (sum₂ (freeInto home r) (marks ks (o .kind)) (o .words)) 0
 
@@ -178,7 +178,7 @@ subregions L r = count (λ g. eqb (g .parent) r) (L .regions)
 
 -- ---- Marks (document 01, The store)
 
--- By mark, 0 to 4: may a word of an object of region h, directly below region u, lead into region t?
+-- May a word of an object of region h, below region u (0 for none), lead into region t? By mark: 0 data, 1 free, 2 same, 3 up, 4 forever
 abbrev pub rule : ℕ → ℕ → ℕ → ℕ → Bool
 rule k t h u = getD (false ∷ true ∷ eqb t h ∷ (eqb t h || eqb t u) ∷ eqb t 1 ∷ []) k false
 

@@ -9,7 +9,7 @@ use Rattle.model.specs.Model.{Model, Call, declare, newRegion, subregion
 use Rattle.model.specs.Model.{homeIn, last, slot, held, markAt, marks, inFrames, freeInto}
 use Rattle.model.specs.Calls.{popFrame}
 
--- the frames from the lowest k up to the lowest m
+-- of the lowest m frames, those above the lowest k
 abbrev pub between : ℕ → ℕ → List (List ℕ) → List (List ℕ)
 between k m fs = drop k (take m fs)
 

@@ -31,7 +31,7 @@ pub record Holding : Type 0 where
   pub page : ℕ
   pub region : ℕ
 
--- `frames` has the number of slots of each frame, the lowest first; `pages` is how many were made
+-- `frames` has the number of slots of each frame, the lowest first; `counted` is m; `pages` is how many were made
 pub record History : Type 0 where
   pub kinds : List (List ℕ)
   pub frames : List ℕ
@@ -79,7 +79,7 @@ begin S = record {
   pages = pageCount (pages S);
 }
 
--- ---- pointers: the slots of all frames, and the words marked 1 to 4 of live objects
+-- ---- pointers: slots of every frame, and the words of live objects that are no data
 
 abbrev pub isLive : History → ℕ → Bool
 isLive h r = any (λ g. eqb (g .name) r) (h .regions)
@@ -129,6 +129,7 @@ outside h S r = sum (slotsInto h S r) (upTo (length (h .frames))) + sum (wordsIn
 unfoldable pub uncountedInto : History → Store → ℕ → ℕ
 uncountedInto h S r = sum (λ i. pick (leb (h .counted) i) (slotsInto h S r i) 0) (upTo (length (h .frames)))
 
+-- the stored count of the region named r, at the entry that has that name; 0 where none has
 unfoldable pub storedCount : Store → ℕ → ℕ
 storedCount S r = countAt (regions S) (entryOf (regions S) r)
 

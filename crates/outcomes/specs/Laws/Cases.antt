@@ -1,4 +1,4 @@
--- What calls refuse and leave, computed on the memory `small` of Examples. Each case is false of an edit of the calls that must be refused, which it names.
+-- What calls refuse and leave, computed on the memory `small` of Examples, where an edit of the calls that must be refused would refuse or leave something else: most cases name it.
 -- Assumes nothing.
 use mathlib.Core.Path.{_≡_, refl}
 use mathlib.Core.Bool.{Bool, true}
