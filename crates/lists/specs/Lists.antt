@@ -38,6 +38,13 @@ module _ {A : Type 0} where
   sum f [] = 0
   sum f (x ∷ xs) = f x + sum f xs
 
+  -- two lists are one, element by element
+  abbrev pub equal : (A → A → Bool) → List A → List A → Bool
+  equal f [] [] = true
+  equal f [] (y ∷ ys) = false
+  equal f (x ∷ xs) [] = false
+  equal f (x ∷ xs) (y ∷ ys) = f x y && equal f xs ys
+
   -- P of each element
   abbrev pub All : (A → Type 0) → List A → Type 0
   All P [] = Unit {0}

@@ -9,7 +9,7 @@ use Prim.Native.String.{String, [] as []ᵗ, _∷_ as _∷ᵗ_}
 use lib.Dec.{eqb, ltb, leb}
 use lib.ListN.{length, getD, replicate}
 use lib.Seq.{sets}
-use Rattle.lists.specs.Lists.{pick, every}
+use Rattle.lists.specs.Lists.{pick, every, equal}
 use Rattle.script.specs.declared.Line.{Line}
 
 -- the bytes of a text
@@ -83,17 +83,10 @@ names = map (λ c. bytes (c .0)) calls
 unfoldable pub counts : List ℕ
 counts = 0 ∷ map (λ c. c .1) calls
 
--- two words are one
-abbrev pub equal : List ℕ → List ℕ → Bool
-equal [] [] = true
-equal [] (b ∷ v) = false
-equal (a ∷ w) [] = false
-equal (a ∷ w) (b ∷ v) = eqb a b && equal w v
-
 -- the place of a word in a list, counted from n on, or 0
 unfoldable pub placed : ℕ → List ℕ → List (List ℕ) → ℕ
 placed n w [] = 0
-placed n w (v ∷ vs) = pick (equal w v) n (placed (suc n) w vs)
+placed n w (v ∷ vs) = pick (equal eqb w v) n (placed (suc n) w vs)
 
 -- the number of the call that a word names or numbers, 1 for `pages`, 0 for none
 unfoldable pub callOf : List ℕ → ℕ

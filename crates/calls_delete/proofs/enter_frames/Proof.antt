@@ -9,7 +9,7 @@ use Rattle.regions.specs.Regions.{moved}
 use Rattle.regions.specs.Laws.Counts.{Counts, fits-counts, moved-counts, moved-none, moved-moved}
 use Rattle.checks.specs.Checks.{slotTags}
 use Rattle.calls_delete.specs.Delete.{newTargets}
-use Rattle.calls_delete.specs.Laws.Delete.{from-next, from-end}
+use Rattle.lists.specs.Laws.UpTo.{from-next, from-end}
 use Rattle.calls_delete.proofs.enter_frames.Statement.{statement}
 use Rattle.calls_delete.proofs.enter_frames.Tie as tie
 

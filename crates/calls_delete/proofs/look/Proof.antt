@@ -13,7 +13,7 @@ use Rattle.frames.specs.declared.Frames.{Frames}
 use Rattle.frames.specs.Frames.{frameCount, widthAt, slotAt}
 use Rattle.pages.specs.Pages.{ownerIn}
 use Rattle.calls_delete.specs.Delete.{leads, looked}
-use Rattle.calls_delete.specs.Laws.Delete.{from-next, from-end}
+use Rattle.lists.specs.Laws.UpTo.{from-next, from-end}
 use Rattle.calls_delete.proofs.look.Statement.{statement}
 use Rattle.calls_delete.proofs.look.Tie as tie
 

@@ -1,12 +1,8 @@
--- The tests and the state left are those of the call's outcome; the frames from m on, one after the other.
+-- The tests and the state left are those of the call's outcome.
 -- Assumes nothing.
 use mathlib.Core.Path.{_≡_, refl}
-use mathlib.Core.List.{[], _∷_}
-use Prim.Native.Nat.{ℕ, suc, _+_, _-_, _<_, _≤_}
-use native.Mathlib.Numerals.{add-one}
-use native.Mathlib.Omega.{arith}
+use Prim.Native.Nat.{ℕ}
 use lib.ListN.{length}
-use Rattle.lists.specs.Lists.{from}
 use Rattle.model.specs.Model.{delete}
 use Rattle.model.specs.Calls.{reason}
 use Rattle.regions.specs.Regions.{entryOf, tagOf}
@@ -14,9 +10,8 @@ use Rattle.pages.specs.Pages.{ownerOf}
 use Rattle.objects.specs.Objects.{outOf}
 use Rattle.outcomes.specs.Store.{Store, regions, pages, ledInto, slotTargets}
 use Rattle.outcomes.specs.Outcome.{store, checks, refusal, deleted, recounted, outgoing, newlyCounted}
-use Rattle.checks.specs.Checks.{orElse, regionTests}
+use Rattle.checks.specs.Checks.{orElse, regionTests, slotTags}
 use Rattle.checks.specs.Laws.Tests.{one-region}
-use Rattle.checks.specs.Checks.{slotTags}
 use Rattle.calls_delete.specs.Delete.{leads, looked, deleteTests, newTargets, ownWordsTo, ownWords, emptied}
 
 module _ (S : Store) (r : ℕ) where
@@ -27,12 +22,3 @@ module _ (S : Store) (r : ℕ) where
   pub delete-leaves : store (emptied (S .state) (S .heap) (entryOf (regions S) r) (tagOf (regions S) r)) (S .heap) ≡ deleted S r
   unfolding deleted recounted outgoing newlyCounted slotTargets ownerOf outOf emptied newTargets slotTags ownWords ownWordsTo
   delete-leaves = refl
-
--- ---- the numbers from i up to n
-
-module _ (i n : ℕ) where
-  pub from-next : i < n → from i (n - i) ≡ i ∷ from (i + 1) (n - (i + 1))
-  from-next h = let e : n - i ≡ suc (n - (i + 1)) = omega arith in rw (e, add-one i)
-
-  pub from-end : n ≤ i → from i (n - i) ≡ []
-  from-end h = let e : n - i ≡ 0 = omega arith in rw e

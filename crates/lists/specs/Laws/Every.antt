@@ -2,15 +2,15 @@
 -- Assumes nothing.
 use mathlib.Core.Path.{_≡_, refl, sym, ap, ap₂, _∙_}
 use mathlib.Core.Logic.{_≢_, _⊎_, inl, inr}
-use mathlib.Core.Bool.{Bool, true, false, not, _&&_, _||_, true≢false}
+use mathlib.Core.Bool.{Bool, true, false, not, _&&_, _||_, true≢false, false≢true}
 use mathlib.Core.List.{List, [], _∷_, map}
 use Prim.Native.Nat.{ℕ, _+_, _≤_, _<_}
 use native.Mathlib.Omega.{arith}
 use lib.Dec.{ltb}
 use borrow.Author.Count.{below-none, below-more}
 use borrow.Author.Tests.{ltb-true, ltb-false}
-use Rattle.lists.specs.Lists.{pick, any, every, keep, All, joined, upTo}
-use Rattle.lists.specs.Laws.Tests.{by-test, by-same}
+use Rattle.lists.specs.Lists.{pick, any, every, keep, equal, All, joined, upTo}
+use Rattle.lists.specs.Laws.Tests.{both, by-test, by-same}
 use Rattle.lists.specs.Laws.Finds.{every-append}
 use Rattle.lists.specs.Laws.UpTo.{all-upTo, every-each, each-every, any-one, none-any}
 
@@ -24,6 +24,17 @@ module _ {A B : Type 0} where
   every-joined f g (x ∷ xs) = every-append f (g x) (joined g xs) ∙ ap (λ b. every f (g x) && b) (every-joined f g xs)
 
 module _ {A : Type 0} where
+  -- lists that are one by a test are one, if elements are; and a list is one with itself, if its elements are
+  pub equal-is : (f : A → A → Bool) → ((x y : A) → f x y ≡ true → x ≡ y) → (xs ys : List A) → equal f xs ys ≡ true → xs ≡ ys
+  equal-is f h [] [] e = refl
+  equal-is f h [] (y ∷ ys) e = absurd (false≢true e)
+  equal-is f h (x ∷ xs) [] e = absurd (false≢true e)
+  equal-is f h (x ∷ xs) (y ∷ ys) e = let q = both (f x y) (equal f xs ys) e in ap₂ _∷_ (h x y (q .0)) (equal-is f h xs ys (q .1))
+
+  pub equal-self : (f : A → A → Bool) → ((x : A) → f x x ≡ true) → (xs : List A) → equal f xs xs ≡ true
+  equal-self f h [] = refl
+  equal-self f h (x ∷ xs) = rw (h x, equal-self f h xs)
+
   -- those that fail g are kept
   pub every-keep : (f g : A → Bool) (l : List A) → every f (keep (λ x. not (g x)) l) ≡ every (λ x. g x || f x) l
   every-keep f g [] = refl

@@ -4,7 +4,7 @@ use mathlib.Core.Path.{_≡_, refl, sym, ap, _∙_}
 use mathlib.Core.Logic.{_≢_, _⊎_, inl, inr}
 use mathlib.Core.Bool.{Bool, true, false, _&&_, _||_, and-true, or-false, true≢false}
 use mathlib.Core.List.{List, [], _∷_, _++_, map, append-nil}
-use Prim.Native.Nat.{ℕ, zero, suc, _+_, _<_, _≤_}
+use Prim.Native.Nat.{ℕ, zero, suc, _+_, _-_, _<_, _≤_}
 use native.Mathlib.Nat.{le-of-suc-le-suc, not-suc-le-zero}
 use native.Mathlib.Numerals.{add-one}
 use native.Mathlib.Omega.{arith}
@@ -77,6 +77,15 @@ module _ {A : Type 0} where
 
   pub map-next : (f : ℕ → A) (n : ℕ) → map f (upTo (n + 1)) ≡ map f (upTo n) ++ (f n ∷ [])
   map-next f n = ap (λ m. map f (upTo m)) (add-one n) ∙ map-suc f n
+
+-- ---- the numbers from i up to n
+
+module _ (i n : ℕ) where
+  pub from-next : i < n → from i (n - i) ≡ i ∷ from (i + 1) (n - (i + 1))
+  from-next h = let e : n - i ≡ suc (n - (i + 1)) = omega arith in rw (e, add-one i)
+
+  pub from-end : n ≤ i → from i (n - i) ≡ []
+  from-end h = let e : n - i ≡ 0 = omega arith in rw e
 
 -- ---- the number at each place
 

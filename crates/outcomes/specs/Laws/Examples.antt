@@ -5,7 +5,7 @@ use mathlib.Core.Bool.{Bool, true, false, _&&_}
 use mathlib.Core.List.{List, [], _∷_, map}
 use Prim.Native.Nat.{ℕ, suc}
 use lib.Dec.{eqb}
-use Rattle.lists.specs.Lists.{pick, every}
+use Rattle.lists.specs.Lists.{pick, every, equal}
 use Rattle.frames.specs.Frames.{frameCount, widthAt, slotAt}
 use Rattle.kinds.specs.Kinds.{kindCount, sizeOf, markAt}
 use Rattle.regions.specs.Regions.{nameAt, nameOf, entryOf, parentAt, levelAt, newestAt, oldestAt, countAt}
@@ -22,14 +22,8 @@ failing n [] = []
 failing n (b ∷ bs) = pick b (failing (suc n) bs) (n ∷ failing (suc n) bs)
 
 -- what each memory breaks, and nothing else: a computed test
-abbrev equal : List ℕ → List ℕ → Bool
-equal [] [] = true
-equal [] (y ∷ ys) = false
-equal (x ∷ xs) [] = false
-equal (x ∷ xs) (y ∷ ys) = eqb x y && equal xs ys
-
 abbrev right : Example → Bool
-right e = equal (failing 0 (clauses (e .memory))) (e .breaks)
+right e = equal eqb (failing 0 (clauses (e .memory))) (e .breaks)
 
 pub broken : every right examples ≡ true
 unfolding frameCount widthAt slotAt kindCount sizeOf markAt nameAt nameOf entryOf parentAt levelAt newestAt oldestAt countAt pageCount ownerAt takenAt isFree walk headersTo headersOn entries listedRegions listedKinds listedFrames listedHeld listedFree metOn begin slotsOf pointersOf leads homeOf slotsInto wordsInto outside uncountedInto storedCount countsExact slotsLead wordsLead pagesHeld filled placed newestOwn oldestOwn

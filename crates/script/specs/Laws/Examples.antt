@@ -7,9 +7,9 @@ use Prim.Native.Nat.{ℕ}
 use Prim.Native.String.{String}
 use lib.Dec.{eqb}
 use lib.ListN.{getD, replicate}
-use Rattle.lists.specs.Lists.{every, joined, from, upTo}
+use Rattle.lists.specs.Lists.{every, joined, from, upTo, equal}
 use Rattle.script.specs.declared.Line.{Line}
-use Rattle.script.specs.Script.{bytes, blank, inWord, words, value, names, counts, equal, placed, callOf, allowed, zeros, line, bad, given, said, scanned}
+use Rattle.script.specs.Script.{bytes, blank, inWord, words, value, names, counts, placed, callOf, allowed, zeros, line, bad, given, said, scanned}
 
 -- a line, whether a store is made before it, and the call and arguments that it says
 record Row : Type 0 where
@@ -19,7 +19,7 @@ record Row : Type 0 where
   args : List ℕ
 
 alike : Line → Line → Bool
-alike a b = eqb (a .call) (b .call) && eqb (a .count) (b .count) && equal (a .args) (b .args)
+alike a b = eqb (a .call) (b .call) && eqb (a .count) (b .count) && equal eqb (a .args) (b .args)
 
 right : Row → Bool
 right r = alike (scanned (r .made) (r .text)) (line (r .call) (r .args))

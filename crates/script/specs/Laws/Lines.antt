@@ -11,36 +11,27 @@ use lib.Dec.{eqb, leb}
 use lib.ListN.{length, getD, set, take, drop}
 use lib.Seq.{sets, sets-eq, take-append-seam}
 use borrow.Author.Tests.{eqb-true, eq-eqb, le-leb, lt-leb, lt-ltb, le-ltb}
-use Rattle.lists.specs.Lists.{pick, every}
+use Rattle.lists.specs.Lists.{pick, every, equal}
+use Rattle.lists.specs.Laws.Every.{equal-is, equal-self}
 use Rattle.lists.specs.Laws.Tests.{both, by-test, pick-same}
 use Rattle.lists.specs.Laws.Sets.{getD-sets-out}
 use Rattle.script.specs.declared.Line.{Line}
-use Rattle.script.specs.Script.{value, none, known, equal, placed, callOf, allowed, line, zeros, bad, given, said}
+use Rattle.script.specs.Script.{value, none, known, placed, callOf, allowed, line, zeros, bad, given, said}
 
 -- ---- names
 
-equal-is : (w v : List ℕ) → equal w v ≡ true → w ≡ v
-equal-is [] [] e = refl
-equal-is [] (b ∷ v) e = absurd (false≢true e)
-equal-is (a ∷ w) [] e = absurd (false≢true e)
-equal-is (a ∷ w) (b ∷ v) e = let q = both (eqb a b) (equal w v) e in ap₂ _∷_ (eqb-true a b (q .0)) (equal-is w v (q .1))
-
-equal-self : (w : List ℕ) → equal w w ≡ true
-equal-self [] = refl
-equal-self (a ∷ w) = rw (eq-eqb a a refl, equal-self w)
-
 pub placed-here : (n : ℕ) (w v : List ℕ) (vs : List (List ℕ)) → w ≡ v → n ≡ placed n w (v ∷ vs)
 unfolding placed
-placed-here n w v vs e = rw (e, equal-self v)
+placed-here n w v vs e = rw (e, equal-self eqb (λ x. eq-eqb x x refl) v)
 
 pub placed-next : (n : ℕ) (w v : List ℕ) (vs : List (List ℕ)) → (w ≡ v → ⊥) → placed n w (v ∷ vs) ≡ placed (n + 1) w vs
 unfolding placed
-placed-next n w v vs e = by-test (equal w v) (λ q. absurd (e (equal-is w v q))) (λ q. rw (add-one n, q))
+placed-next n w v vs e = by-test (equal eqb w v) (λ q. absurd (e (equal-is eqb eqb-true w v q))) (λ q. rw (add-one n, q))
 
 pub placed-below : (n : ℕ) (w : List ℕ) (vs : List (List ℕ)) → placed n w vs ≤ n + length vs
 unfolding placed
 placed-below n w [] = omega arith
-placed-below n w (v ∷ vs) = go (equal w v) (placed-below (suc n) w vs)
+placed-below n w (v ∷ vs) = go (equal eqb w v) (placed-below (suc n) w vs)
   where
     go : (t : Bool) → placed (suc n) w vs ≤ suc n + length vs → pick t n (placed (suc n) w vs) ≤ n + suc (length vs)
     go true h = omega arith
