@@ -1,26 +1,34 @@
--- The three demands. They speak of `Outcome`, which is what every public call's contract says, of lists of calls (`Run`) and of what these tell (`history`).
+-- The three demands, and more. They speak of `Outcome`, which is what every public call's contract says, of lists of calls (`Run`) and of what these tell (`history`).
+-- Each is a type. The theorems are in Laws: demand1, demand2 and audited-answers, demand3, stays-sound, stays-shown, starts-agree and runs-exist, table-holds.
 -- Assumes nothing.
 use mathlib.Core.Path.{_≡_}
 use mathlib.Core.Logic.{_↔_, _≢_}
-use mathlib.Core.Bool.{true}
+use mathlib.Core.Bool.{Bool, true}
 use mathlib.Core.List.{List, [], _∷_}
 use Prim.Native.Nat.{ℕ, _+_, _/_, _<_}
 use lib.ListN.{length, getD, drop}
-use Rattle.model.specs.Model.{Answer, report, delete, audit, gives}
+use Rattle.lists.specs.Lists.{count, All, times}
+use Rattle.model.specs.Model.{Model, Answer, Call, report, delete, audit, gives}
 use Rattle.model.specs.Calls.{makes, fresh, run}
+use Rattle.model.specs.Valid.{Valid}
 use Rattle.model.specs.Sessions.{lines, table, document}
 use Rattle.outcomes.specs.Store.{Store}
-use Rattle.outcomes.specs.History.{History, begin, isLive, storedCount, uncountedInto, outside, subregions, slotsLead, wordsLead, pagesHeld}
+use Rattle.outcomes.specs.History.{History, Region, Object, begin, isLive, storedCount, uncountedInto, outside, subregions, slotsLead, wordsLead, holders, pagesHeld}
 use Rattle.outcomes.specs.Shape.{Shaped}
 use Rattle.outcomes.specs.Outcome.{Outcome, MakeOutcome}
 use Rattle.outcomes.specs.Promises.{Total, Refusals, LengthFirst, SameLength, OnlyNamed, KeepsShape, AuditExact, Makes}
-use Rattle.refinement.specs.Runs.{Event, calls, answers, Run}
+use Rattle.refinement.specs.Runs.{Event, calls, answers, Sent, Run}
 use Rattle.demands.specs.Told.{opening, history}
 
 -- Demand 1. That each call is safe, ends and touches only what it is given is the gate's verdict on functions without a `requires`.
--- Here: every call has an outcome on every memory; it refuses by the first test that holds, and then changes no word; 21 comes first; no heap word is written that the rules don't name; make.
+-- Here, of every memory: a call has an outcome; it refuses by the first test that holds, and then changes no word; 21 comes first where the length is wrong; the heap's length stays; audit; make.
+-- Of memory that the audit accepts: no call answers 21, and no heap word is written that the rules don't name. `KeepsShape` is of any memory whose numbers have their types' widths.
 unfoldable pub Demand1 : Type 0
 Demand1 = Total × Refusals × LengthFirst × SameLength × OnlyNamed × KeepsShape × AuditExact × Makes
+
+-- What is said of every run is said of every list of calls: each has a run, from any store. `Sent` asks that put's value is below 2^32; it is a u32 parameter of the call.
+unfoldable pub RunsExist : Type 0
+RunsExist = (cs : List Call) → All Sent cs → (S : Store) → (es : List Event) × (T : Store) × Run S es T × (calls es ≡ cs)
 
 -- Demand 2. From a fresh store, whatever the calls, the answers are the reference model's, refusals included.
 unfoldable pub Demand2 : Type 0
@@ -29,7 +37,13 @@ Demand2 =
     → (es : List Event) (T : Store) → Run S es T
     → (a ≡ gives []) × (answers es ≡ run (fresh (length heap / 64)) (calls es))
 
--- a fresh store, or one that the audit accepts, and the history that it begins
+-- More than demand 2: from any memory for which audit gives 1 the answers are those of some valid model, whatever the calls.
+unfoldable pub AuditedAnswers : Type 0
+AuditedAnswers =
+    (S : Store) → Shaped S → Outcome audit S (gives (1 ∷ [])) S
+    → (L : Model) × Valid L × ((es : List Event) (T : Store) → Run S es T → answers es ≡ run L (calls es))
+
+-- a fresh store, or one that the audit accepts, and the history that it begins. `Shaped` is what the language's types give of every memory: see the contract of audit
 pub data Start : Store → History → Type 0 where
   afterMake : {S : Store} {h : History} (heap : List ℕ) → makes (length heap) ≡ true → MakeOutcome heap (gives []) S → h ≡ opening (length heap / 64) → Start S h
   afterAudit : {S : Store} {h : History} → Shaped S → Outcome audit S (gives (1 ∷ [])) S → h ≡ begin S → Start S h
@@ -41,26 +55,46 @@ pub record Holds (h : History) (S : Store) : Type 0 where
   -- every pointer is null, or leads to a live object and keeps its mark's rule
   pub slots : slotsLead h S ≡ true
   pub words : wordsLead h S ≡ true
-  -- each page is free or held by one live region
+  -- every page made is either free or some one live region's
   pub pages : pagesHeld h ≡ true
-  -- report, asked next of a live region, gives its stored count and its outside pointers
+  -- if the next call is a report of a live region, it answers the stored count and how many outside pointers there are
   pub reports : (r : ℕ) → isLive h r ≡ true → (a : Answer) (T : Store) → Outcome (report r) S a T
       → (a .refusal ≡ 0) × (getD (a .values) 0 0 ≡ storedCount S r) × (getD (a .values) 1 0 ≡ outside h S r)
-  -- delete, asked next of a live region other than region 1, is refused exactly while a live subregion or an outside pointer remains
+  -- if the next call deletes a live region, not region 1, it is accepted just where the region has no live subregion and no outside pointer
   pub deletes : (r : ℕ) → isLive h r ≡ true → r ≢ 1 → (a : Answer) (T : Store) → Outcome (delete r) S a T
       → (a .refusal ≡ 0) ↔ ((subregions h r ≡ 0) × (outside h S r ≡ 0))
 
--- Demand 3. One claim about the whole list, the empty one included.
+-- Demand 3. All of it, after any run from a start; the run may be empty.
 unfoldable pub Demand3 : Type 0
 Demand3 = (S : Store) (h : History) → Start S h → (es : List Event) (T : Store) → Run S es T → Holds (history h es) T
 
--- More than the demands: the audit, asked after any such list, gives 1.
+-- More than the demands: the audit, asked after any such list of calls, gives 1.
 unfoldable pub StaysSound : Type 0
 StaysSound = (S : Store) (h : History) → Start S h → (es : List Event) (T U : Store) (a : Answer) → Run S es T → Outcome audit T a U → a ≡ gives (1 ∷ [])
 
--- Document 01's session and cases: a run of the store with the calls of a row of the table, whose make is accepted, prints the row's lines.
+-- the memory S lists what the calls told (h). `begin` reads memory entry by entry and page by page, h is in the order of the calls
+pub record Shows (h : History) (S : Store) : Type 0 where
+  pub kinds : h .kinds ≡ (begin S) .kinds
+  pub frames : h .frames ≡ (begin S) .frames
+  pub counted : h .counted ≡ (begin S) .counted
+  pub pages : h .pages ≡ (begin S) .pages
+  -- the same regions and objects in any order: as many pass any test
+  pub regions : (f : Region → Bool) → count f (h .regions) ≡ count f ((begin S) .regions)
+  pub objects : (f : Object → Bool) → count f (h .objects) ≡ count f ((begin S) .objects)
+  pub free : (j : ℕ) → times j (h .free) ≡ times j ((begin S) .free)
+  pub held : (j : ℕ) → holders h j ≡ holders (begin S) j
+
+-- More than the demands: after any such list of calls the memory lists what they told.
+unfoldable pub StaysShown : Type 0
+StaysShown = (S : Store) (h : History) → Start S h → (es : List Event) (T : Store) → Run S es T → Shows (history h es) T
+
+-- The two starts agree: the audit accepts what make leaves (`Makes`), and that memory lists what make begins.
+unfoldable pub StartsAgree : Type 0
+StartsAgree = (heap : List ℕ) (a : Answer) (S : Store) → makes (length heap) ≡ true → MakeOutcome heap a S → begin S ≡ opening (length heap / 64)
+
+-- Document 01's session and cases, those whose make is refused too: make, given as many words as a row of the table says, and then a run with the row's calls print the row's lines.
 unfoldable pub TableHolds : Type 0
 TableHolds =
-    (k : ℕ) → k < length table → (heap : List ℕ) (a : Answer) (S : Store) → length heap ≡ getD table k document .words → makes (length heap) ≡ true → MakeOutcome heap a S
+    (k : ℕ) → k < length table → (heap : List ℕ) (a : Answer) (S : Store) → length heap ≡ getD table k document .words → MakeOutcome heap a S
     → (es : List Event) (T : Store) → Run S es T → calls es ≡ getD table k document .calls
     → drop (getD table k document .skip) (lines 1 (a ∷ answers es)) ≡ getD table k document .prints

@@ -1,16 +1,16 @@
--- What a list of calls tells: kinds, frames, m and what is live, held or free, read from the calls and their outcomes (document 01, The calls).
--- It never looks at what the state lists, but for the slot in which allocate shows its object.
+-- The history that a list of calls makes: what each accepted call says of kinds, frames and m, live regions and objects, pages held and free (document 01, The calls).
+-- It goes by a call's arguments and answer alone, and never by what the state lists, but for the slot in which allocate shows its object.
 -- Assumes nothing.
 use mathlib.Core.Bool.{not, _&&_}
 use mathlib.Core.List.{List, [], _∷_, _++_, map}
-use Prim.Native.Nat.{ℕ, zero, suc, _+_, _-_, _*_, _/_}
+use Prim.Native.Nat.{ℕ, zero, suc, _-_, _/_}
 use lib.Dec.{eqb, ltb, leb}
 use lib.ListN.{length, getD, take}
-use Rattle.lists.specs.Lists.{pick, keep, upTo, among}
+use Rattle.lists.specs.Lists.{pick, every, keep, upTo, among}
 use Rattle.model.specs.Model.{Call, declare, newRegion, subregion, push, dropFrame, handBack, allocate, first, copy, fetch, clear, load, setPointer, put, get, view, same, about, report, totals, audit, delete}
 use Rattle.frames.specs.Frames.{slotAt}
 use Rattle.outcomes.specs.Store.{Store, frames}
-use Rattle.outcomes.specs.History.{History, Region, Object, Holding, holders}
+use Rattle.outcomes.specs.History.{History, holders}
 use Rattle.refinement.specs.Runs.{Event}
 
 -- what an accepted make of n pages begins: region 1, every page free
@@ -32,7 +32,7 @@ withKinds h ks = record { kinds = ks; frames = h .frames; counted = h .counted; 
 abbrev pub withFrames : History → List ℕ → ℕ → History
 withFrames h fs m = record { kinds = h .kinds; frames = fs; counted = m; regions = h .regions; objects = h .objects; held = h .held; free = h .free; pages = h .pages }
 
--- a region is live from the accepted call that gives its name
+-- a new region, by the name that the call answered, and the name of the region above it, 0 for none
 unfoldable pub born : History → ℕ → ℕ → History
 born h r parent = record {
   kinds = h .kinds;
@@ -45,17 +45,17 @@ born h r parent = record {
   pages = h .pages;
 }
 
--- a frame goes; m falls by one if the frame then on top was counted
+-- the top frame goes and n are left: the new top, if n > 0, is frame n - 1, counted if n <= m; then m falls by one
 unfoldable pub popped : History → History
 popped h =
     let n = length (h .frames) - 1 in
     withFrames h (take n (h .frames)) (pick (ltb 0 n && leb n (h .counted)) (h .counted - 1) (h .counted))
 
--- an object is live at the place that its slot shows, its pointer less 1; its page is the region's from then on, and no longer free.
+-- a new object of region r and kind k, to which the slot's new pointer p + 1 leads: its header stands at place p, and page p / 64 is r's and not free.
 -- (A slot that is null after an accepted allocate would make no object; the outcomes exclude it.)
-abbrev pub placed : History → ℕ → ℕ → ℕ → History
-placed h r k zero = h
-placed h r k (suc p) = record {
+abbrev pub objectMade : History → ℕ → ℕ → ℕ → History
+objectMade h r k zero = h
+objectMade h r k (suc p) = record {
   kinds = h .kinds;
   frames = h .frames;
   counted = h .counted;
@@ -66,7 +66,11 @@ placed h r k (suc p) = record {
   pages = h .pages;
 }
 
--- a deleted region, its objects and its hold on its pages are gone; a page that no other region holds is free; m is raised
+-- the pages that region r holds
+abbrev pub pagesHeldBy : History → ℕ → List ℕ
+pagesHeldBy h r = map (λ t. t .page) (keep (λ t. eqb (t .region) r) (h .held))
+
+-- region r goes with its objects; those of its pages that no other region holds are free; m is raised
 unfoldable pub ended : History → ℕ → History
 ended h r = record {
   kinds = h .kinds;
@@ -75,7 +79,7 @@ ended h r = record {
   regions = keep (λ g. not (eqb (g .name) r)) (h .regions);
   objects = keep (λ o. not (eqb (o .home) r)) (h .objects);
   held = keep (λ t. not (eqb (t .region) r)) (h .held);
-  free = h .free ++ keep (λ j. eqb (length (keep (λ q. not (eqb q r)) (holders h j))) 0) (map (λ t. t .page) (keep (λ t. eqb (t .region) r) (h .held)));
+  free = h .free ++ keep (λ j. every (λ q. eqb q r) (holders h j)) (pagesHeldBy h r);
   pages = h .pages;
 }
 
@@ -91,7 +95,7 @@ told (subregion r) v T h = born h (getD v 0 0) r
 told (push n) v T h = withFrames h (h .frames ++ (n ∷ [])) (h .counted)
 told dropFrame v T h = popped h
 told (handBack s b) v T h = popped h
-told (allocate s r k) v T h = placed h r k (shown h T s)
+told (allocate s r k) v T h = objectMade h r k (shown h T s)
 told (first s r) v T h = h
 told (copy s t) v T h = h
 told (fetch b s) v T h = h

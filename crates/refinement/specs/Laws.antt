@@ -14,6 +14,9 @@ pub mod Grow
 pub mod Places
 pub mod Allocate
 pub mod Delete
+pub mod Tells
+pub mod Pointers
+pub mod TellsPages
 pub mod RebuildWalk
 pub mod RebuildObjects
 pub mod RebuildRegions
@@ -25,10 +28,9 @@ pub mod RebuildLaid
 pub mod RebuildTiles
 pub mod Rebuild
 pub mod AuditedObjects
-pub mod AuditedCounts
+pub mod AuditedLists
 pub mod AuditedPages
 pub mod AuditedRegions
-pub mod AuditedPointers
 pub mod AuditedHeld
 pub mod Audited
-pub mod Follows
+pub mod Good

@@ -1,4 +1,5 @@
--- The model that a memory lists (document 01, The calls, on audited memory): kinds and frames as they stand, regions by entry, objects page by page and header by header.
+-- Used in proofs only: no demand cites it, and a reader need not believe it. How the demands read audited memory is `begin`, in outcomes' History.
+-- A reference model made from a memory: kinds and frames as they stand, regions by entry, objects in the order in which their headers are met, pointers as ids.
 -- Assumes nothing.
 use mathlib.Core.List.{List, map}
 use Prim.Native.Nat.{ℕ, zero, suc, _+_, _-_, _/_}

@@ -1,3 +1,4 @@
+-- Used in proofs only: no demand cites it, and a reader need not believe it.
 -- When a store represents a model. `sp` has, for each object of the model in its order, the pointer by which the store knows it, and `ids j` the objects on page j.
 -- Nothing is said of entries that are not in use: they may hold anything.
 -- Assumes nothing.
@@ -8,7 +9,7 @@ use mathlib.Core.List.{List, [], _∷_}
 use Prim.Native.Nat.{ℕ, zero, suc, _+_, _-_, _*_, _/_, _≤_, _<_}
 use lib.Dec.{eqb}
 use lib.ListN.{length, getD}
-use Rattle.lists.specs.Lists.{pick, sum, All, from, upTo}
+use Rattle.lists.specs.Lists.{pick, sum, from, upTo}
 use Rattle.model.specs.Model.{Model, Region, Object, object, region, marks, livesIn, homeIn, stored}
 use Rattle.frames.specs.declared.Frames.{Frames}
 use Rattle.frames.specs.Frames.{widthAt, slotAt}
@@ -77,13 +78,17 @@ abbrev pub RoomAgrees : ℕ → Pages → ℕ → ℕ → Type 0
 RoomAgrees room p tag zero = room ≡ 0
 RoomAgrees room p tag (suc j) = NewestAgrees room p tag j
 
+-- page j is free, or its owner is a live region
+abbrev pub Owned : Model → Regions → Pages → ℕ → Type 0
+Owned L g p j = (ownerAt p j ≡ 0) ⊎ ((r : ℕ) × (livesIn L r ≡ true) × (ownerAt p j ≡ tagOf g r))
+
 pub record PagesAgree (L : Model) (g : Regions) (p : Pages) (words : ℕ) : Type 0 where
   pub some : 1 ≤ p .made
   pub most : p .made ≤ 256
   pub whole : words ≡ 64 * p .made
   pub free : pagesOf p 0 ≡ L .free
   pub held : (r : ℕ) → livesIn L r ≡ true → pagesOf p (tagOf g r) ≡ (region (L .regions) r) .pages
-  pub owned : (j : ℕ) → j < p .made → (ownerAt p j ≡ 0) ⊎ ((r : ℕ) × (livesIn L r ≡ true) × (ownerAt p j ≡ tagOf g r))
+  pub owned : (j : ℕ) → j < p .made → Owned L g p j
   pub room : (r : ℕ) → livesIn L r ≡ true → RoomAgrees ((region (L .regions) r) .room) p (tagOf g r) (newestAt g (entryOf g r))
 
 -- object p, whose kind has the marks ms, stands in the heap at its pointer

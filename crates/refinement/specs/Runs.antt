@@ -1,4 +1,4 @@
--- Runs of the store: each call, refused or not, gets the state and heap that the one before left (document 01, The calls).
+-- Lists of calls on one store, with their outcomes: a call starts from what the last one left, also where that was refused (document 01, The calls).
 -- Assumes nothing.
 use mathlib.Core.Path.{_≡_}
 use mathlib.Core.List.{List, [], _∷_, map}
@@ -19,7 +19,7 @@ calls es = map (λ e. e .call) es
 abbrev pub answers : List Event → List Answer
 answers es = map (λ e. e .answer) es
 
--- the calls are functions of 32-bit numbers; of their arguments only put's value goes into the memory as it is
+-- a call's arguments are u32 numbers. Of them only put's value goes in unchecked, so only of it must that be said
 abbrev pub Sent : Call → Type 0
 Sent c = (s w x : ℕ) → c ≡ put s w x → x < 4294967296
 

@@ -1,19 +1,15 @@
 -- Demand 1: the promises of the outcomes, and make.
 -- Assumes nothing.
 use mathlib.Core.Path.{_≡_, refl, sym, ap, _∙_}
-use mathlib.Core.Bool.{Bool, true, false, _&&_, true≢false}
-use mathlib.Core.List.{List, []}
-use Prim.Native.Nat.{ℕ, _/_}
-use lib.ListN.{length, replicate, length-replicate}
-use Rattle.lists.specs.Lists.{All}
+use mathlib.Core.Bool.{true≢false}
+use mathlib.Core.List.{List}
+use Prim.Native.Nat.{ℕ}
+use lib.ListN.{length, length-replicate}
 use Rattle.lists.specs.Laws.All.{all-replicate}
-use Rattle.model.specs.Model.{Answer, gives, refusedBy}
-use Rattle.model.specs.Calls.{makes}
 use Rattle.frames.specs.Frames.{frameCount}
 use Rattle.kinds.specs.Kinds.{kindCount}
 use Rattle.regions.specs.Regions.{nameAt}
 use Rattle.pages.specs.Pages.{pageCount}
-use Rattle.outcomes.specs.Store.{Store}
 use Rattle.outcomes.specs.History.{begin, entries, listedRegions, listedKinds, listedFrames, listedHeld, listedFree, metOn}
 use Rattle.outcomes.specs.Sound.{Sound}
 use Rattle.outcomes.specs.Outcome.{MakeOutcome, blank, store}
@@ -22,7 +18,6 @@ use Rattle.outcomes.specs.Laws.Refused.{total, refusals, audit-exact}
 use Rattle.outcomes.specs.Laws.Length.{length-first}
 use Rattle.outcomes.specs.Laws.Heap.{same-length, only-named}
 use Rattle.outcomes.specs.Laws.Keeps.{keeps-shape}
-use Rattle.refinement.specs.Laws.Follows.{Good}
 use Rattle.refinement.specs.Laws.Audited.{audited}
 use Rattle.demands.specs.Demands.{Demand1}
 use Rattle.demands.specs.Laws.Demand2.{made-good}

@@ -1,22 +1,26 @@
--- Demand 2: what make leaves stands for the fresh model, and any run follows it.
+-- Demand 2: what make leaves stands for the fresh model, audited memory for the one that it lists, and any run follows it.
 -- Assumes nothing.
-use mathlib.Core.Path.{_≡_}
+use mathlib.Core.Path.{_≡_, refl}
 use mathlib.Core.Bool.{true}
-use mathlib.Core.List.{List, []}
+use mathlib.Core.List.{List, [], _∷_}
 use Prim.Native.Nat.{ℕ, _/_}
 use lib.ListN.{length}
-use Rattle.model.specs.Model.{Answer}
+use Rattle.model.specs.Model.{Answer, gives}
 use Rattle.model.specs.Calls.{makes, fresh}
 use Rattle.model.specs.Laws.Next.{fresh-valid}
 use Rattle.model.specs.Laws.Paged.{fresh-paged}
 use Rattle.outcomes.specs.Store.{Store}
 use Rattle.outcomes.specs.Outcome.{MakeOutcome}
+use Rattle.outcomes.specs.Promises.{AuditExact}
+use Rattle.outcomes.specs.Laws.Refused.{audit-exact}
+use Rattle.refinement.specs.Rebuild.{rebuilt}
 use Rattle.refinement.specs.Laws.Fresh.{make-pages, make-answers, make-represents, make-shaped}
-use Rattle.refinement.specs.Laws.Follows.{Good, run-follows}
-use Rattle.demands.specs.Demands.{Demand2}
+use Rattle.refinement.specs.Laws.Good.{Good, audited-good}
+use Rattle.demands.specs.Demands.{Demand2, AuditedAnswers}
+use Rattle.demands.specs.Laws.Steps.{run-follows}
 
 -- what an accepted make leaves
-unfoldable pub made-good : (heap : List ℕ) (a : Answer) (S : Store) → makes (length heap) ≡ true → MakeOutcome heap a S → Good (length heap / 64) (fresh (length heap / 64)) S
+pub made-good : (heap : List ℕ) (a : Answer) (S : Store) → makes (length heap) ≡ true → MakeOutcome heap a S → Good (length heap / 64) (fresh (length heap / 64)) S
 made-good heap a S ok o = record {
   places = [];
   onPage = λ j. [];
@@ -30,3 +34,9 @@ made-good heap a S ok o = record {
 pub demand2 : Demand2
 unfolding Demand2
 demand2 heap a S ok o es T r = (make-answers heap a S ok o, run-follows (made-good heap a S ok o) r .0)
+
+pub audited-answers : AuditedAnswers
+unfolding AuditedAnswers AuditExact
+audited-answers S sh o =
+    let g = audited-good S sh (audit-exact S (gives (1 ∷ [])) S o .0 .0 refl) in
+    (rebuilt S, g .valid, λ es T r. run-follows g r .0)

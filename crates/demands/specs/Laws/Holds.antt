@@ -1,46 +1,32 @@
 -- Demand 3's statements hold of a store that represents a valid model and a history that tells of it.
 -- Assumes nothing.
 use mathlib.Core.Path.{_≡_, sym, ap, _∙_, subst}
-use mathlib.Core.Logic.{_⊎_, inl, inr, _↔_, _≢_}
-use mathlib.Core.Bool.{true, _&&_}
+use mathlib.Core.Logic.{_↔_, _≢_}
+use mathlib.Core.Bool.{true}
 use mathlib.Core.List.{List}
-use Prim.Native.Nat.{ℕ, _+_, _<_}
+use Prim.Native.Nat.{ℕ}
 use native.Mathlib.Omega.{arith}
-use lib.Dec.{eqb}
-use lib.ListN.{length, getD}
+use lib.ListN.{getD}
 use borrow.Author.Tests.{eqb-true, ne-eqb, not-false}
-use Rattle.lists.specs.Lists.{bit, every}
-use Rattle.lists.specs.Laws.UpTo.{each-every}
 use Rattle.model.specs.Model.{Model, Answer, report, delete, livesIn, outside}
 use Rattle.model.specs.Calls.{checks, refusal}
 use Rattle.model.specs.Valid.{Valid}
 use Rattle.model.specs.Laws.Passed.{passed}
-use Rattle.regions.specs.Regions.{tagOf}
-use Rattle.pages.specs.Pages.{ownerAt}
 use Rattle.outcomes.specs.Store.{Store, regions, pages}
-use Rattle.outcomes.specs.History.{History, isLive, storedCount, pagesHeld, subregions}
+use Rattle.outcomes.specs.History.{History, storedCount, subregions}
 use Rattle.outcomes.specs.History as history
 use Rattle.outcomes.specs.Outcome.{Accepted, Answered, Outcome}
 use Rattle.outcomes.specs.Promises.{Refusals}
 use Rattle.outcomes.specs.Laws.Refused.{refusals}
 use Rattle.refinement.specs.Represents.{Represents}
-use Rattle.refinement.specs.Laws.Tags.{tag-some}
 use Rattle.refinement.specs.Laws.Report as report
 use Rattle.refinement.specs.Laws.Refusals.{refusals-agree}
 use Rattle.demands.specs.Demands.{Holds}
-use Rattle.demands.specs.Laws.Tells.{holding, Tells, TellsPages, live-is, subregions-are, holding-tag}
-use Rattle.demands.specs.Laws.Pointers.{slots-lead, words-lead, outside-is, uncounted-is}
+use Rattle.refinement.specs.Laws.Tells.{Tells, live-is, subregions-are}
+use Rattle.refinement.specs.Laws.Pointers.{slots-lead, words-lead, outside-is, uncounted-is}
+use Rattle.refinement.specs.Laws.TellsPages.{TellsPages, pages-held}
 
 module _ {L : Model} {sp : List ℕ} {ids : ℕ → List ℕ} {S : Store} {h : History} (v : Valid L) (rep : Represents L sp ids S) (t : Tells L sp h) (u : TellsPages h ((regions S) .names) (pages S)) where
-  pages-held : pagesHeld h ≡ true
-  unfolding pagesHeld
-  pages-held = each-every _ (h .pages) (λ j k. let l : j < (pages S) .made = omega (arith, u .pages) in rw (u .free j l, u .held j l) (go j (rep .onPages .owned j l)))
-    where
-      go : (j : ℕ) → (ownerAt (pages S) j ≡ 0) ⊎ ((r : ℕ) × (livesIn L r ≡ true) × (ownerAt (pages S) j ≡ tagOf (regions S) r))
-          → (eqb (bit (eqb (ownerAt (pages S) j) 0) + length (holding ((regions S) .names) (ownerAt (pages S) j))) 1 && every (isLive h) (holding ((regions S) .names) (ownerAt (pages S) j))) ≡ true
-      go j (inl e) = rw e
-      go j (inr (r, l, e)) = rw (e, ne-eqb (tagOf (regions S) r) 0 (tag-some (regions S) r), holding-tag (rep .onRegions) r l, live-is t r, l)
-
   outside-told : (r : ℕ) → history.outside h S r ≡ outside L r
   outside-told = outside-is S t v (rep .onFrames) (rep .onObjects)
 
@@ -68,7 +54,7 @@ module _ {L : Model} {sp : List ℕ} {ids : ℕ → List ℕ} {S : Store} {h : H
     counts = λ r l. omega (arith, rep .counts r (sym (live-is t r) ∙ l), outside-told r, uncounted-is S t v (rep .onFrames) (rep .onObjects) r);
     slots = slots-lead S t v (rep .onFrames) (rep .onObjects);
     words = words-lead S t v (rep .onFrames) (rep .onObjects);
-    pages = pages-held;
+    pages = pages-held (rep .onRegions) (rep .onPages) t u;
     reports = λ r l. reported r (sym (live-is t r) ∙ l);
     deletes = λ r l. deleted r (sym (live-is t r) ∙ l);
   }

@@ -9,7 +9,7 @@ use native.Mathlib.Omega.{arith}
 use lib.Dec.{eqb, ltb, leb}
 use lib.ListN.{length, getD, set, take, replicate, length-append, length-replicate, length-set, List·getD-append, List·getD-map}
 use lib.Seq.{map-set-same, getD-append-seam}
-use borrow.Author.Tests.{eqb-true, eq-eqb, ltb-false}
+use borrow.Author.Tests.{eqb-true, eq-eqb}
 use Rattle.lists.specs.Lists.{pick, sum, from}
 use Rattle.lists.specs.Laws.Tests.{by-test}
 use Rattle.lists.specs.Laws.All.{all-map, all-at}
@@ -17,18 +17,17 @@ use Rattle.lists.specs.Laws.Sums.{sum-append, sum-map, sum-keep, sum-same}
 use Rattle.lists.specs.Laws.Finds.{map-append}
 use Rattle.lists.specs.Laws.UpTo.{sum-from-suc, all-from}
 use Rattle.model.specs.Model.{Model, Region, Object, noObject, object, called, live, livesIn, homeIn, last, top, slot}
-use Rattle.model.specs.Calls.{fillSlot, popFrame, replaced, withWord, withObjects, writeWord, addRegion, grown, addObject, others, removeRegion, size, fresh}
+use Rattle.model.specs.Calls.{fillSlot, popFrame, replaced, withWord, withObjects, writeWord, addRegion, grown, addObject, others, removeRegion, size}
 use Rattle.model.specs.Calls as model
 use Rattle.model.specs.Valid.{Valid}
 use Rattle.model.specs.Laws.Regions.{live-less, live-others, live-removed}
 use Rattle.outcomes.specs.History.{History}
 use Rattle.outcomes.specs.History as history
 use Rattle.refinement.specs.Represents.{spot, idsIn}
+use Rattle.refinement.specs.Laws.Stack.{mark-falls}
 use Rattle.refinement.specs.Laws.Places.{newObject, newId, made-lives, spot-last}
-use Rattle.demands.specs.Told.{opening, withKinds, withFrames, born, popped, placed, ended}
-use Rattle.refinement.specs.Laws.RebuildLaid.{listed}
-use Rattle.refinement.specs.Laws.Rebuild.{met}
-use Rattle.demands.specs.Laws.Tells.{Tells, frames-length}
+use Rattle.demands.specs.Told.{withKinds, withFrames, born, popped, objectMade, ended}
+use Rattle.refinement.specs.Laws.Tells.{listed, met, Tells, frames-length}
 
 map-take : {A B : Type 0} (f : A → B) (n : ℕ) (l : List A) → map f (take n l) ≡ take n (map f l)
 map-take f zero l = refl
@@ -39,10 +38,6 @@ map-take f (suc n) (x ∷ xs) = ap (λ l. f x ∷ l) (map-take f n xs)
 object-set : {X : Type 0} (f : Object → X) (os : List Object) (i : ℕ) (o : Object) → f o ≡ f (getD os i noObject) → (q : ℕ) → f (object (set os i o) q) ≡ f (object os q)
 object-set f os i o e zero = refl
 object-set f os i o e (suc q) = sym (List·getD-map f (set os i o) q noObject) ∙ ap (λ l. getD l q (f noObject)) (map-set-same f os i o noObject e) ∙ List·getD-map f os q noObject
-
-pub fresh-told : (n : ℕ) → Tells (fresh n) [] (opening n)
-unfolding opening
-fresh-told n = record { kinds = refl; frames = refl; counted = refl; regions = λ f. refl; objects = λ f. refl }
 
 module _ {L : Model} {sp : List ℕ} {h : History} (t : Tells L sp h) where
   -- ---- kinds and frames
@@ -65,14 +60,7 @@ module _ {L : Model} {sp : List ℕ} {h : History} (t : Tells L sp h) where
   unfolding popFrame popped
   pop-told v = framed (take (last (L .frames)) (L .frames)) _ _ _
       (ap₂ (λ n l. take (n - 1) l) (frames-length t) (t .frames) ∙ sym (map-take length (last (L .frames)) (L .frames)))
-      (ap₂ (λ n m. pick (ltb 0 (n - 1) && leb (n - 1) m) (m - 1) m) (frames-length t) (t .counted) ∙ mark (last (L .frames)) (L .counted) (v .frames .mark))
-    where
-      low : (b : Bool) (m : ℕ) → m ≡ 0 → m ≡ pick b (m - 1) m
-      low true m e = omega arith
-      low false m e = refl
-
-      mark : (n m : ℕ) → m ≤ n → pick (ltb 0 n && leb n m) (m - 1) m ≡ pick (leb n m) (m - 1) m
-      mark n m k = by-test (ltb 0 n) (λ e. rw e) (λ e. rw e (low (leb n m) m (omega (arith, ltb-false 0 n e))))
+      (ap₂ (λ n m. pick (ltb 0 (n - 1) && leb (n - 1) m) (m - 1) m) (frames-length t) (t .counted) ∙ mark-falls (last (L .frames)) (L .counted) (v .frames .mark))
 
   -- ---- words
 
@@ -161,7 +149,7 @@ module _ {L : Model} {sp : List ℕ} {h : History} (t : Tells L sp h) where
         ap₂ (adds f) (spot-last L sp len (suc p)) (ap (object os₂) (add-one (length (L .objects))) ∙ getD-append-seam (noObject ∷ L .objects) (newObject L r k) [] noObject)
         ∙ rw (made-lives L r k r, lr, e)
 
-    pub object-told : Tells (addObject L r k) sp₂ (placed h r k (suc p))
+    pub object-told : Tells (addObject L r k) sp₂ (objectMade h r k (suc p))
     unfolding addObject
     object-told = record {
       kinds = t .kinds;

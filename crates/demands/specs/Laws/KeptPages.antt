@@ -4,13 +4,13 @@ use mathlib.Core.Path.{_≡_, refl, sym, ap, _∙_, fun-ext}
 use mathlib.Core.Logic.{_⊎_, inl, inr, _≢_}
 use mathlib.Core.Bool.{Bool, true, false, not}
 use mathlib.Core.List.{List, [], _∷_, _++_, map, append-nil}
-use Prim.Native.Nat.{ℕ, zero, suc, _+_, _/_, _<_}
+use Prim.Native.Nat.{ℕ, zero, suc, _+_, _/_, _≤_, _<_}
 use native.Mathlib.Omega.{arith}
 use lib.Dec.{eqb}
 use lib.ListN.{length, set}
 use lib.Seq.{getD-set-other}
 use borrow.Author.Tests.{eqb-false, eq-eqb, ne-eqb}
-use Rattle.lists.specs.Lists.{bit, pick, keep, sum, times, among}
+use Rattle.lists.specs.Lists.{bit, pick, every, keep, sum, times, among}
 use Rattle.lists.specs.Laws.Tests.{by-test, by-same, pick-same}
 use Rattle.lists.specs.Laws.Sums.{sum-append, sum-map, sum-keep}
 use Rattle.lists.specs.Laws.Finds.{times-keep, keep-append, map-append}
@@ -22,31 +22,16 @@ use Rattle.pages.specs.Pages.{ownerAt, withTaken, freed}
 use Rattle.pages.specs.Laws.Taken.{owner-here, owner-else}
 use Rattle.pages.specs.Laws.Gone.{gone-owner}
 use Rattle.outcomes.specs.History.{History, Holding, holders}
-use Rattle.refinement.specs.Represents.{RegionsAgree, PagesAgree}
+use Rattle.refinement.specs.Represents.{RegionsAgree, Owned, PagesAgree}
 use Rattle.refinement.specs.Laws.Tags.{entry-name, live-named, tag-some, tag-same, tag-injective}
 use Rattle.refinement.specs.Laws.Reads.{page-count}
-use Rattle.demands.specs.Told.{placed, ended}
-use Rattle.demands.specs.Laws.Tells.{holding, TellsPages, holding-tag}
+use Rattle.demands.specs.Told.{objectMade, pagesHeldBy, ended}
+use Rattle.refinement.specs.Laws.TellsPages.{holding, TellsPages, holding-tag, heldBy, held-else}
 
 -- a name written at another entry
 holding-else : (names : List ℕ) (i x t : ℕ) → t ≢ i + 1 → holding (set names i x) t ≡ holding names t
 holding-else names i x zero n = refl
 holding-else names i x (suc k) n = ap (λ m. m ∷ []) (getD-set-other names i k x 0 (λ e. n (omega arith)))
-
--- who holds page j, as `holders` reads a list
-abbrev pub heldBy : ℕ → List Holding → List ℕ
-heldBy j l = map (λ t. t .region) (keep (λ t. eqb (t .page) j) l)
-
-pub held-else : (j r : ℕ) (l : List Holding) → heldBy j (keep (λ t. not (eqb (t .region) r)) l) ≡ keep (λ q. not (eqb q r)) (heldBy j l)
-held-else j r [] = refl
-held-else j r (x ∷ xs) = go (eqb (x .region) r) refl (eqb (x .page) j) refl (held-else j r xs)
-  where
-    go : (a : Bool) → eqb (x .region) r ≡ a → (b : Bool) → eqb (x .page) j ≡ b → heldBy j (keep (λ t. not (eqb (t .region) r)) xs) ≡ keep (λ q. not (eqb q r)) (heldBy j xs)
-        → heldBy j (pick (not a) (x ∷ keep (λ t. not (eqb (t .region) r)) xs) (keep (λ t. not (eqb (t .region) r)) xs)) ≡ keep (λ q. not (eqb q r)) (map (λ t. t .region) (pick b (x ∷ keep (λ t. eqb (t .page) j) xs) (keep (λ t. eqb (t .page) j) xs)))
-    go true p true q e = rw p e
-    go true p false q e = e
-    go false p true q e = rw (q, p) (ap (λ l. x .region ∷ l) e)
-    go false p false q e = rw q e
 
 -- how often r holds page j, by its pages
 times-held : (j r : ℕ) (l : List Holding) → times j (map (λ t. t .page) (keep (λ t. eqb (t .region) r) l)) ≡ times r (heldBy j l)
@@ -61,19 +46,18 @@ times-held j r l =
     go false true = refl
     go false false = refl
 
+held-more : (j : ℕ) (l : List Holding) (t : Holding) → heldBy j (l ++ (t ∷ [])) ≡ heldBy j l ++ heldBy j (t ∷ [])
+held-more j l t = ap (map (λ t. t .region)) (keep-append (λ t. eqb (t .page) j) l (t ∷ [])) ∙ map-append (λ t. t .region) (keep (λ t. eqb (t .page) j) l) _
+
 -- a call that tells nothing of pages
 pub same-pages : {h k : History} {names : List ℕ} {p : Pages} → k .held ≡ h .held → k .free ≡ h .free → k .pages ≡ h .pages → TellsPages h names p → TellsPages k names p
-same-pages a b c u = record { pages = c ∙ u .pages; free = λ j l. ap (times j) b ∙ u .free j l; held = λ j l. ap (heldBy j) a ∙ u .held j l }
-
--- a page is free, or held by one live region
-abbrev Owned : Model → Regions → Pages → ℕ → Type 0
-Owned L g p j = (ownerAt p j ≡ 0) ⊎ ((r : ℕ) × (livesIn L r ≡ true) × (ownerAt p j ≡ tagOf g r))
+same-pages a b c u = record { pages = c ∙ u .pages; free = λ j l. ap (times j) b ∙ u .free j l; held = λ j l. ap (heldBy j) a ∙ u .held j l; none = λ j l. (ap (times j) b ∙ u .none j l .0, ap (heldBy j) a ∙ u .none j l .1) }
 
 module _ {L : Model} {sp : List ℕ} {h : History} {g : Regions} {p : Pages} {words : ℕ} (ra : RegionsAgree L sp g) (pa : PagesAgree L g p words) (u : TellsPages h (g .names) p) where
   -- a name at an entry that was not in use
   pub named-pages : (i x : ℕ) → nameAt g i ≡ 0 → TellsPages h (set (g .names) i x) p
   unfolding tagOf
-  named-pages i x z = record { pages = u .pages; free = u .free; held = λ j l. u .held j l ∙ sym (holding-else (g .names) i x (ownerAt p j) (other j (pa .owned j l))) }
+  named-pages i x z = record { pages = u .pages; free = u .free; held = λ j l. u .held j l ∙ sym (holding-else (g .names) i x (ownerAt p j) (other j (pa .owned j l))); none = u .none }
     where
       other : (j : ℕ) → Owned L g p j → ownerAt p j ≢ i + 1
       other j (inl o) e = omega arith
@@ -84,12 +68,11 @@ module _ {L : Model} {sp : List ℕ} {h : History} {g : Regions} {p : Pages} {wo
   module _ (r : ℕ) (lr : livesIn L r ≡ true) where
     -- ---- delete
 
-    ended-free : (j : ℕ) → times j ((ended h r) .free) ≡ times j (h .free) + pick (eqb (length (keep (λ q. not (eqb q r)) (holders h j))) 0) (times r (holders h j)) 0
+    ended-free : (j : ℕ) → times j ((ended h r) .free) ≡ times j (h .free) + pick (every (λ q. eqb q r) (holders h j)) (times r (holders h j)) 0
     unfolding ended
     ended-free j =
-        let own = map (λ t. t .page) (keep (λ t. eqb (t .region) r) (h .held)) in
-        let alone : ℕ → Bool = λ j. eqb (length (keep (λ q. not (eqb q r)) (holders h j))) 0 in
-        sum-append (λ x. bit (eqb x j)) (h .free) (keep alone own) ∙ ap (λ n. times j (h .free) + n) (times-keep j alone own ∙ ap (λ n. pick (alone j) n 0) (times-held j r (h .held)))
+        let alone : ℕ → Bool = λ j. every (λ q. eqb q r) (holders h j) in
+        sum-append (λ x. bit (eqb x j)) (h .free) (keep alone (pagesHeldBy h r)) ∙ ap (λ n. times j (h .free) + n) (times-keep j alone (pagesHeldBy h r) ∙ ap (λ n. pick (alone j) n 0) (times-held j r (h .held)))
 
     other-tag : (q : ℕ) → eqb q r ≡ false → livesIn L q ≡ true → tagOf g q ≢ entryOf g r + 1
     unfolding tagOf
@@ -109,6 +92,7 @@ module _ {L : Model} {sp : List ℕ} {h : History} {g : Regions} {p : Pages} {wo
       pages = u .pages;
       free = λ j l. ended-page j l (pa .owned j l) .0;
       held = λ j l. held-else j r (h .held) ∙ ended-page j l (pa .owned j l) .1;
+      none = λ j l. (ended-free j ∙ rw (u .none j l .0, u .none j l .1), held-else j r (h .held) ∙ ap (keep (λ q. not (eqb q r))) (u .none j l .1));
     }
 
     -- ---- allocate
@@ -133,14 +117,23 @@ module _ {L : Model} {sp : List ℕ} {h : History} {g : Regions} {p : Pages} {wo
           go : (j ≡ x / 64) ⊎ (j ≢ x / 64) → holding (g .names) (ownerAt p j) ≡ holding (g .names) (ownerAt p₂ j)
           go (inl e) = rw (e, o, owner-here p (x / 64) (tagOf g r) n room)
           go (inr d) = rw (owner-else p (x / 64) (tagOf g r) n j d)
-      placed-held (inr o) j l =
-          let t : Holding = record { page = x / 64; region = r } in
-          rw (u .held (x / 64) made, o) (ap (map (λ t. t .region)) (keep-append (λ t. eqb (t .page) j) (h .held) (t ∷ [])) ∙ map-append (λ t. t .region) (keep (λ t. eqb (t .page) j) (h .held)) _ ∙ go (by-same j (x / 64)))
+      placed-held (inr o) j l = rw (u .held (x / 64) made, o) (held-more j (h .held) (record { page = x / 64; region = r }) ∙ go (by-same j (x / 64)))
         where
           go : (j ≡ x / 64) ⊎ (j ≢ x / 64) → heldBy j (h .held) ++ heldBy j (record { page = x / 64; region = r } ∷ []) ≡ holding (g .names) (ownerAt p₂ j)
           go (inl e) = rw (u .held j l, e, o, eq-eqb (x / 64) (x / 64) refl, owner-here p (x / 64) (tagOf g r) n room, holding-tag ra r lr)
           go (inr d) = rw (ne-eqb (x / 64) j (λ e. d (sym e)), append-nil, owner-else p (x / 64) (tagOf g r) n j d) (u .held j l)
 
-      pub placed-pages : (ownerAt p (x / 64) ≡ tagOf g r) ⊎ (ownerAt p (x / 64) ≡ 0) → TellsPages (placed h r k (suc x)) (g .names) p₂
+      -- no page that was not made is told of
+      placed-none : (j : ℕ) → p .made ≤ j
+          → (times j (keep (λ j. not (eqb j (x / 64))) (h .free)) ≡ 0) × (heldBy j (pick (among r (holders h (x / 64))) (h .held) (h .held ++ (record { page = x / 64; region = r } ∷ []))) ≡ [])
+      placed-none j l =
+          let d : j ≢ x / 64 = λ e. omega arith in
+          (times-keep j (λ j. not (eqb j (x / 64))) (h .free) ∙ rw (ne-eqb j (x / 64) d) (u .none j l .0), go (λ e. d (sym e)) (among r (holders h (x / 64))))
+        where
+          go : x / 64 ≢ j → (b : Bool) → heldBy j (pick b (h .held) (h .held ++ (record { page = x / 64; region = r } ∷ []))) ≡ []
+          go d true = u .none j l .1
+          go d false = held-more j (h .held) (record { page = x / 64; region = r }) ∙ rw (ne-eqb (x / 64) j d, append-nil) (u .none j l .1)
+
+      pub placed-pages : (ownerAt p (x / 64) ≡ tagOf g r) ⊎ (ownerAt p (x / 64) ≡ 0) → TellsPages (objectMade h r k (suc x)) (g .names) p₂
       unfolding withTaken
-      placed-pages o = record { pages = u .pages; free = placed-free; held = placed-held o }
+      placed-pages o = record { pages = u .pages; free = placed-free; held = placed-held o; none = placed-none }

@@ -10,13 +10,13 @@ use native.Mathlib.Omega.{arith}
 use lib.Dec.{eqb, ltb}
 use lib.ListN.{length, getD, replicate}
 use lib.Seq.{sets, length-sets}
-use borrow.Author.Tests.{eqb-true, eq-eqb, ne-eqb, ltb-true, leb-true, leb-false, not-false}
+use borrow.Author.Tests.{eqb-true, eq-eqb, ne-eqb, ltb-true, leb-true, leb-false}
 use Rattle.lists.specs.Lists.{bit, pick, sum}
 use Rattle.lists.specs.Laws.Tests.{both, by-same}
 use Rattle.lists.specs.Laws.All.{all-map, all-at}
 use Rattle.lists.specs.Laws.Sums.{sum-map}
-use Rattle.model.specs.Model.{Model, Region, Answer, region, marks, livesIn, top, allocate}
-use Rattle.model.specs.Calls.{checks, refusal, reply, accepted, size, fits, grown, addObject}
+use Rattle.model.specs.Model.{Model, Region, region, marks, livesIn, top, allocate}
+use Rattle.model.specs.Calls.{checks, refusal, accepted, size, fits, grown, addObject}
 use Rattle.model.specs.Valid.{Valid}
 use Rattle.model.specs.Laws.Passed.{passed}
 use Rattle.model.specs.Laws.Slots.{Known, slot-known, oldest-known}
@@ -32,7 +32,7 @@ use Rattle.pages.specs.Pages.{pageCount, ownerAt, takenAt, isFree, pagesOf, wit
 use Rattle.pages.specs.Laws.Taken.{owner-here, owner-else, taken-here, taken-else, pages-moved}
 use Rattle.outcomes.specs.Store.{Store, kinds, regions, pages, roomy, size as storeSize}
 use Rattle.outcomes.specs.Shape.{PagesShaped, RegionsShaped, Shaped}
-use Rattle.outcomes.specs.Outcome.{withRegions, withPages, withHeap, Chosen, allocated, Accepted, fillSlot as storeFill}
+use Rattle.outcomes.specs.Outcome.{withRegions, withPages, withHeap, Chosen, allocated, fillSlot as storeFill}
 use Rattle.refinement.specs.Represents.{spot, tagFor, EntryAgrees, RegionsAgree, NewestAgrees, RoomAgrees, PagesAgree, Represents}
 use Rattle.refinement.specs.Laws.Tags.{zero-dead, tag-some, tag-injective, entry-in}
 use Rattle.refinement.specs.Laws.Places.{Onto, newId, joins, made-lives, spot-last, spot-kept, objects-made}
@@ -264,6 +264,14 @@ module _ (L : Model) (sp : List ℕ) (ids : ℕ → List ℕ) (S : Store) (v : V
   abbrev pub joined : ℕ → List ℕ
   joined = joins ids j (pick (roomy S (entryOf (regions S) r) (storeSize S k)) (ids j) [] ++ (newId L ∷ []))
 
+  -- the page was the region's or free, is one of those made, and has a word left
+  pub chosen-page : Chosen S (entryOf (regions S) r) (storeSize S k) j → ((ownerAt (pages S) j ≡ tagOf (regions S) r) ⊎ (ownerAt (pages S) j ≡ 0)) × (j < (pages S) .made) × (start < 64)
+  chosen-page c = let f = chosen (roomy S (entryOf (regions S) r) (storeSize S k)) (sym roomy-fits) c in (own (f .1), f .0, omega (arith, room-for start (f .1)))
+    where
+      own : Takes L (regions S) (pages S) r k j start → (ownerAt (pages S) j ≡ tagOf (regions S) r) ⊎ (ownerAt (pages S) j ≡ 0)
+      own (inl h) = inl (h .1)
+      own (inr h) = inr (h .1)
+
   pub allocated-represents : (s : ℕ) → refusal L (allocate s r k) ≡ 0 → Chosen S (entryOf (regions S) r) (storeSize S k) j
       → Represents (accepted L (allocate s r k)) (sp ++ ((64 * j + start + 1) ∷ [])) joined (allocated S s (entryOf (regions S) r) k j)
   unfolding accepted checks allocated addObject
@@ -278,11 +286,3 @@ module _ (L : Model) (sp : List ℕ) (ids : ℕ → List ℕ) (S : Store) (v : V
       subst (λ x. Represents (accepted L (allocate s r k)) (sp ++ (a ∷ [])) joined (storeFill (W (storeSize S k) (sizeOf (kinds S) k)) s x)) (spot-last L sp (rep .onObjects .known) a)
       (fill-represents (addObject L r k) (sp ++ (a ∷ [])) joined (W (storeSize S k) (sizeOf (kinds S) k)) (made-valid L v s r k e) n (sh .inFrames .slots .0) s (newId L)
       (leb-false (length (top L)) s (passed L (allocate s r k) e .1 .0)))
-
-module _ (L : Model) (sp : List ℕ) (ids : ℕ → List ℕ) (S : Store) (v : Valid L) (sh : Shaped S) (rep : Represents L sp ids S) where
-  pub allocate-step : (s r k : ℕ) → refusal L (allocate s r k) ≡ 0 → (a : Answer) (T : Store) → Accepted (allocate s r k) S a T
-      → (a ≡ reply L (allocate s r k)) × ((sp₂ : List ℕ) × (ids₂ : ℕ → List ℕ) × Represents (accepted L (allocate s r k)) sp₂ ids₂ T)
-  unfolding checks reply Accepted
-  allocate-step s r k e a T (b, (j, c, d)) =
-      let l = not-false (livesIn L r) (passed L (allocate s r k) e .1 .1 .0) in
-      (b, (_, _, rw (sym d) at (allocated-represents L sp ids S v sh rep r k j l s e c)))

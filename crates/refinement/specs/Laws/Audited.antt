@@ -19,21 +19,25 @@ use Rattle.outcomes.specs.Sound.{Sound}
 use Rattle.outcomes.specs.Shape.{Shaped}
 use Rattle.refinement.specs.Represents.{Represents}
 use Rattle.refinement.specs.Laws.Tags.{entry-name}
+use Rattle.refinement.specs.Laws.Tells.{Tells}
+use Rattle.refinement.specs.Laws.Pointers.{slots-lead, words-lead, outside-is, uncounted-is}
 use Rattle.refinement.specs.Laws.RebuildStack.{is-within}
 use Rattle.refinement.specs.Laws.AuditedObjects.{Agrees, agrees}
-use Rattle.refinement.specs.Laws.AuditedCounts.{outside-is, uncounted-is}
-use Rattle.refinement.specs.Laws.AuditedRegions.{entries-all, entries-every, distinct, one, deep, past, stands, own-newest, own-oldest}
-use Rattle.refinement.specs.Laws.AuditedPointers.{slots-lead, words-lead}
+use Rattle.refinement.specs.Laws.AuditedLists.{entries-all, begin-tells}
+use Rattle.refinement.specs.Laws.AuditedRegions.{entries-every, distinct, one, deep, past, stands, own-newest, own-oldest}
 use Rattle.refinement.specs.Laws.AuditedHeld.{declared, sizes, marked, widths, held, filling}
 
 module _ {L : Model} {sp : List ℕ} {ids : ℕ → List ℕ} (S : Store) (v : Valid L) (h : Represents L sp ids S) where
   a : Agrees L sp ids S
   a = agrees v h
 
+  t : Tells L sp (begin S)
+  t = begin-tells S a
+
   -- the stored count of a live region is what the audit asks for
   exact : (r : ℕ) → livesIn L r ≡ true → eqb (storedCount S r + uncountedInto (begin S) S r) (outside (begin S) S r) ≡ true
   unfolding storedCount
-  exact r l = eq-eqb (storedCount S r + uncountedInto (begin S) S r) (outside (begin S) S r) (omega (arith, h .counts r l, outside-is S a r, uncounted-is S a r))
+  exact r l = eq-eqb (storedCount S r + uncountedInto (begin S) S r) (outside (begin S) S r) (omega (arith, h .counts r l, outside-is S t v (h .onFrames) (h .onObjects) r, uncounted-is S t v (h .onFrames) (h .onObjects) r))
 
   counts : countsExact (begin S) S ≡ true
   unfolding countsExact begin listedRegions
@@ -45,9 +49,9 @@ module _ {L : Model} {sp : List ℕ} {ids : ℕ → List ℕ} (S : Store) (v : V
   pub audited : Shaped S → Sound S
   audited sh = let names = sh .inRegions .names .0 in record {
     counts = counts;
-    slots = slots-lead S a;
-    words = words-lead S a;
-    held = held S a names;
+    slots = slots-lead S t v (h .onFrames) (h .onObjects);
+    words = words-lead S t v (h .onFrames) (h .onObjects);
+    held = held S a;
     made = is-within 1 256 ((pages S) .made) (h .onPages .some) (h .onPages .most);
     declared = declared S a;
     sizes = sizes S a;

@@ -1,37 +1,37 @@
 -- Where a memory represents a valid model, its kinds, frames and pages pass the audit.
 -- Assumes nothing.
-use mathlib.Core.Path.{_≡_, refl, sym, ap, _∙_}
-use mathlib.Core.Logic.{_≢_, _⊎_, inl, inr}
-use mathlib.Core.Bool.{true, not, _||_}
+use mathlib.Core.Path.{_≡_, ap, _∙_}
+use mathlib.Core.Logic.{_≢_}
+use mathlib.Core.Bool.{true}
 use mathlib.Core.List.{List, [], map}
 use Prim.Native.Nat.{ℕ, suc, _+_, _-_, _*_, _≤_, _<_}
 use native.Mathlib.Omega.{arith}
 use lib.Dec.{eqb, leb}
 use lib.ListN.{length, getD}
-use borrow.Author.Tests.{lt-ltb, le-leb, eqb-false, eq-eqb, ne-eqb}
+use borrow.Author.Tests.{lt-ltb, le-leb, eqb-false, eq-eqb}
 use Rattle.lists.specs.Lists.{every, sum, upTo}
-use Rattle.lists.specs.Laws.Tests.{by-test, or-right}
+use Rattle.lists.specs.Laws.Tests.{by-test}
 use Rattle.lists.specs.Laws.All.{all-map, all-in, all-change}
 use Rattle.lists.specs.Laws.Sums.{sum-map, sum-same}
 use Rattle.lists.specs.Laws.Finds.{true-every}
 use Rattle.lists.specs.Laws.UpTo.{each-every}
-use Rattle.model.specs.Model.{Model, object, marks, livesIn}
+use Rattle.model.specs.Model.{Model, object, marks}
 use Rattle.model.specs.Laws.Slots.{object-valid}
 use Rattle.kinds.specs.Kinds.{kindCount, sizeOf}
-use Rattle.regions.specs.Regions.{nameOf, tagOf}
+use Rattle.regions.specs.Regions.{nameOf}
 use Rattle.pages.specs.Pages.{pageCount, ownerAt}
 use Rattle.objects.specs.Objects.{headersOn}
 use Rattle.outcomes.specs.Store.{Store, kinds, regions, pages}
 use Rattle.outcomes.specs.History.{begin, listedKinds, listedFrames, listedHeld, pagesHeld}
 use Rattle.outcomes.specs.Sound.{within, filled}
-use Rattle.outcomes.specs.Laws.Begin.{holderOf, pages-held, pages-filled}
+use Rattle.outcomes.specs.Laws.Begin.{holderOf, pages-filled}
 use Rattle.refinement.specs.Represents.{spot, Alive, wordsIn}
-use Rattle.refinement.specs.Laws.Tags.{live-named}
 use Rattle.refinement.specs.Laws.Reads.{page-count, kind-count}
 use Rattle.refinement.specs.Laws.Walks.{headers-on, homes-on}
 use Rattle.refinement.specs.Laws.RebuildStack.{is-within}
-use Rattle.refinement.specs.Laws.AuditedObjects.{Agrees, holder-is}
-use Rattle.refinement.specs.Laws.AuditedCounts.{kinds-are, frames-are}
+use Rattle.refinement.specs.Laws.TellsPages.{begin-pages, pages-held}
+use Rattle.refinement.specs.Laws.AuditedObjects.{Agrees}
+use Rattle.refinement.specs.Laws.AuditedLists.{kinds-are, frames-are, begin-tells}
 use Rattle.refinement.specs.Laws.AuditedPages.{tiles-sum}
 
 module _ {L : Model} {sp : List ℕ} {ids : ℕ → List ℕ} (S : Store) (a : Agrees L sp ids S) where
@@ -64,14 +64,10 @@ module _ {L : Model} {sp : List ℕ} {ids : ℕ → List ℕ} (S : Store) (a : A
 
   -- ---- pages
 
-  module _ (names : length ((regions S) .names) ≡ 64) where
-    pub held : pagesHeld (begin S) ≡ true
-    held = pages-held S names ∙ each-every _ (pageCount (pages S)) (λ j h. go j (a .onPages .owned j (omega (arith, page-count (a .onPages)))))
-      where
-        go : (j : ℕ) → (ownerAt (pages S) j ≡ 0) ⊎ ((r : ℕ) × (livesIn L r ≡ true) × (ownerAt (pages S) j ≡ tagOf (regions S) r)) → (eqb (ownerAt (pages S) j) 0 || not (eqb (holderOf S j) 0)) ≡ true
-        go j (inl e) = rw e
-        go j (inr (r, l, e)) = rw (ne-eqb (holderOf S j) 0 (λ z. live-named (a .onRegions) r l (sym (holder-is S a r j l e) ∙ z))) (or-right (eqb (ownerAt (pages S) j) 0) true refl)
+  pub held : pagesHeld (begin S) ≡ true
+  held = pages-held (a .onRegions) (a .onPages) (begin-tells S a) (begin-pages S (a .onRegions) (a .onPages))
 
+  module _ (names : length ((regions S) .names) ≡ 64) where
     pub filling : every (filled S) (listedHeld S) ≡ true
     unfolding filled nameOf
     filling = pages-filled S names ∙ each-every _ (pageCount (pages S)) (λ j h. by-test (eqb (holderOf S j) 0) (λ e. rw e) (λ e.

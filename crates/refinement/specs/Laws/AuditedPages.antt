@@ -12,8 +12,8 @@ use borrow.Author.Tests.{eqb-true, eq-eqb}
 use Rattle.lists.specs.Lists.{bit, pick, sum, count, All, upTo}
 use Rattle.lists.specs.Laws.Tests.{by-test}
 use Rattle.lists.specs.Laws.All.{all-map, all-both}
-use Rattle.lists.specs.Laws.Sums.{sum-same, sum-plus}
-use Rattle.lists.specs.Laws.UpTo.{sum-suc}
+use Rattle.lists.specs.Laws.Sums.{sum-same, sum-plus, sum-ones}
+use Rattle.lists.specs.Laws.UpTo.{length-upTo}
 use Rattle.lists.specs.Laws.Kept.{sum-slack}
 use Rattle.model.specs.Model.{Model, Region, region, livesIn}
 use Rattle.model.specs.Laws.Regions.{found-itself}
@@ -25,15 +25,12 @@ use Rattle.refinement.specs.Represents.{wordsIn, Tiles, RoomAgrees}
 use Rattle.refinement.specs.Laws.Tags.{tag-some}
 use Rattle.refinement.specs.Laws.Reads.{page-count}
 use Rattle.refinement.specs.Laws.Report.{names-live, ids-objects, held-pages}
+use Rattle.refinement.specs.Laws.Tells.{pick-bit}
 use Rattle.refinement.specs.Laws.AuditedObjects.{Agrees}
 
 pub tiles-sum : (L : Model) (sp : List ℕ) (a e : ℕ) (ps : List ℕ) → Tiles L sp a e ps → a + sum (λ q. length (wordsIn L q) + 1) ps ≡ e
 tiles-sum L sp a e [] t = omega (arith, t)
 tiles-sum L sp a e (q ∷ qs) t = omega (arith, tiles-sum L sp (a + 1 + length (wordsIn L q)) e qs (t .2))
-
-sum-ones : (n : ℕ) → sum (λ j. 1) (upTo n) ≡ n
-sum-ones zero = refl
-sum-ones (suc n) = omega (arith, sum-suc (λ j. 1) n, sum-ones n)
 
 sum-times : {A : Type 0} (f : A → ℕ) (l : List A) → sum (λ x. 64 * f x) l ≡ 64 * sum f l
 sum-times f [] = refl
@@ -56,11 +53,7 @@ module _ {L : Model} {sp : List ℕ} {ids : ℕ → List ℕ} (S : Store) (a : A
   pages-of : (g : Region) → (livesIn L (g .name) ≡ true) × (region (L .regions) (g .name) ≡ g) → g .pages ≡ sum (λ j. pick (holds (g .name) j) 1 0) (upTo ((pages S) .made))
   pages-of g h =
       ap (λ x. x .pages) (sym (h .1)) ∙ sym (a .onPages .held (g .name) (h .0)) ∙ pages-by (tagOf (regions S) (g .name))
-      ∙ ap (λ f. sum f (upTo ((pages S) .made))) (fun-ext (λ j. go (holds (g .name) j)))
-    where
-      go : (b : Bool) → bit b ≡ pick b 1 0
-      go true = refl
-      go false = refl
+      ∙ ap (λ f. sum f (upTo ((pages S) .made))) (fun-ext (λ j. pick-bit (holds (g .name) j)))
 
   whole : L .free + sum (λ g. g .pages) (L .regions) ≡ (pages S) .made
   whole =
@@ -73,7 +66,8 @@ module _ {L : Model} {sp : List ℕ} {ids : ℕ → List ℕ} (S : Store) (a : A
         held-pages L sp ids (regions S) (pages S) (S .heap) (a .valid) (a .onRegions) (a .onPages) (a .onObjects) (λ j. 1),
         sum-plus (λ j. bit (free j)) (λ j. pick (free j) 0 1) (upTo ((pages S) .made)),
         ap (λ f. sum f (upTo ((pages S) .made))) (fun-ext (λ j. go (free j))),
-        sum-ones ((pages S) .made),
+        sum-ones (upTo ((pages S) .made)),
+        length-upTo ((pages S) .made),
       )
     where
       go : (b : Bool) → bit b + pick b 0 1 ≡ 1

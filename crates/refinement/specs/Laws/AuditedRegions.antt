@@ -8,42 +8,32 @@ use Prim.Native.Nat.{ℕ, zero, suc, _+_, _≤_}
 use native.Mathlib.Numerals.{add-one}
 use native.Mathlib.Omega.{arith}
 use lib.Dec.{eqb, ltb, leb}
-use borrow.Author.Tests.{ltb-true, lt-ltb, le-leb, eqb-true, eq-eqb, ne-eqb}
-use Rattle.lists.specs.Lists.{bit, any, every, find, count, All, times, among}
+use borrow.Author.Tests.{lt-ltb, le-leb, eqb-true, eq-eqb, ne-eqb}
+use Rattle.lists.specs.Lists.{bit, any, every, count, times, among}
 use Rattle.lists.specs.Laws.Tests.{by-test, or-right, or-other}
-use Rattle.lists.specs.Laws.All.{all-change}
 use Rattle.lists.specs.Laws.Sums.{sum-map}
-use Rattle.lists.specs.Laws.Finds.{any-map, any-count, find-passes, all-found, true-every}
-use Rattle.lists.specs.Laws.Kept.{each-kept}
-use Rattle.model.specs.Model.{Model, Region, noRegion, called, live, region, livesIn, homeIn, parentIn}
-use Rattle.model.specs.Valid.{Distinct, ValidParent, OwnOldest, levelOf}
-use Rattle.model.specs.Laws.Regions.{distinct-once, live-all, name-is}
-use Rattle.regions.specs.Regions.{nameAt, nameOf, entryOf, tagOf, parentAt, levelAt, newestAt}
+use Rattle.lists.specs.Laws.Finds.{any-map, any-count, all-found, true-every}
+use Rattle.model.specs.Model.{Model, Region, noRegion, called, region, livesIn, homeIn, parentIn}
+use Rattle.model.specs.Valid.{ValidParent, OwnOldest, levelOf}
+use Rattle.model.specs.Laws.Regions.{live-all, name-is}
+use Rattle.model.specs.Laws.Paged.{distinct-one}
+use Rattle.regions.specs.Regions.{nameAt, entryOf, tagOf, levelAt, newestAt}
 use Rattle.pages.specs.Pages.{pageCount, ownerAt}
 use Rattle.outcomes.specs.Store.{Store, regions, pages}
-use Rattle.outcomes.specs.History.{begin, entries, listedRegions, isLive, parentOf}
-use Rattle.outcomes.specs.History as history
+use Rattle.outcomes.specs.History.{entries}
 use Rattle.outcomes.specs.Sound.{placed, newestOwn, oldestOwn}
 use Rattle.refinement.specs.Represents.{spot, tagFor, RoomAgrees}
-use Rattle.refinement.specs.Laws.Tags.{entry-name, entry-live, entry-own, parent-name}
+use Rattle.refinement.specs.Laws.Tags.{entry-name}
 use Rattle.refinement.specs.Laws.Reads.{page-count}
-use Rattle.refinement.specs.Laws.RebuildRegions.{used, used-is, entries-by}
-use Rattle.refinement.specs.Laws.AuditedObjects.{Agrees, pointer-home}
-
--- a live name is one region's
-named-one : (gs : List Region) → Distinct gs → (r : ℕ) → live gs r ≡ true → count (called r) gs ≡ 1
-named-one gs d r l = omega (arith, distinct-once gs d r, ltb-true 0 (count (called r) gs) (sym (any-count (called r) gs) ∙ l))
+use Rattle.refinement.specs.Laws.RebuildRegions.{entries-by}
+use Rattle.refinement.specs.Laws.Tells.{home-is}
+use Rattle.refinement.specs.Laws.AuditedObjects.{Agrees}
+use Rattle.refinement.specs.Laws.AuditedLists.{entries-all, begin-tells}
 
 module _ {L : Model} {sp : List ℕ} {ids : ℕ → List ℕ} (S : Store) (a : Agrees L sp ids S) where
   -- a test over the entries holds if it does at each live region's
-  pub entries-all : (P : ℕ → Type 0) → ((r : ℕ) → livesIn L r ≡ true → P (entryOf (regions S) r)) → All P (entries S)
-  unfolding entries
-  entries-all P h = each-kept P (used (regions S)) 64 (λ i b e.
-      let n = used-is (regions S) i e in
-      subst P (entry-own (a .onRegions) (a .valid) i b n) (h (nameAt (regions S) i) (entry-live (a .onRegions) i b n)))
-
   pub entries-every : (f : ℕ → Bool) → ((r : ℕ) → livesIn L r ≡ true → f (entryOf (regions S) r) ≡ true) → every f (entries S) ≡ true
-  entries-every f h = true-every f (entries S) (entries-all (λ i. f i ≡ true) h)
+  entries-every f h = true-every f (entries S) (entries-all S a (λ i. f i ≡ true) h)
 
   -- how often a name is listed
   entries-named : (r : ℕ) → count (λ i. eqb (nameAt (regions S) i) r) (entries S) ≡ count (called r) (L .regions)
@@ -51,23 +41,6 @@ module _ {L : Model} {sp : List ℕ} {ids : ℕ → List ℕ} (S : Store) (a : A
 
   entries-live : (r : ℕ) → any (λ i. eqb (nameAt (regions S) i) r) (entries S) ≡ livesIn L r
   entries-live r = any-count (λ i. eqb (nameAt (regions S) i) r) (entries S) ∙ ap (ltb 0) (entries-named r) ∙ sym (any-count (called r) (L .regions))
-
-  pub live-is : (r : ℕ) → isLive (begin S) r ≡ livesIn L r
-  unfolding begin listedRegions
-  live-is r = any-map (λ g. eqb (g .name) r) _ (entries S) ∙ entries-live r
-
-  parents-are : All (λ g. g .parent ≡ parentIn L (g .name)) ((begin S) .regions)
-  unfolding begin listedRegions
-  parents-are = all-change (λ i. nameOf (regions S) (parentAt (regions S) i) ≡ parentIn L (nameAt (regions S) i)) _ _ (λ i e. e) (entries S)
-      (entries-all _ (λ r l. parent-name (a .onRegions) (a .valid) r l ∙ ap (parentIn L) (sym (entry-name (a .onRegions) r l))))
-
-  pub parent-is : (r : ℕ) → livesIn L r ≡ true → parentOf (begin S) r ≡ parentIn L r
-  parent-is r l =
-      let gs = (begin S) .regions in
-      let found : history.Region = find (λ g. eqb (g .name) r) (record { name = 0; parent = 0 }) gs in
-      let e = live-is r ∙ l in
-      all-found (λ g. g .parent ≡ parentIn L (g .name)) (λ g. eqb (g .name) r) (record { name = 0; parent = 0 }) gs parents-are e
-      ∙ ap (parentIn L) (eqb-true (found .name) r (find-passes (λ g. eqb (g .name) r) (record { name = 0; parent = 0 }) gs e))
 
   pub one : among 1 (map (nameAt (regions S)) (entries S)) ≡ true
   one = any-map (λ x. eqb x 1) (nameAt (regions S)) (entries S) ∙ entries-live 1 ∙ a .valid .names .one
@@ -87,7 +60,7 @@ module _ {L : Model} {sp : List ℕ} {ids : ℕ → List ℕ} (S : Store) (a : A
 
     pub distinct : eqb (times (nameAt (regions S) i) (map (nameAt (regions S)) (entries S))) 1 ≡ true
     distinct = rw (entry-name (a .onRegions) r l) (eq-eqb (times r (map (nameAt (regions S)) (entries S))) 1
-        (sum-map (λ x. bit (eqb x r)) (nameAt (regions S)) (entries S) ∙ entries-named r ∙ named-one (L .regions) (a .valid .names .distinct) r l))
+        (sum-map (λ x. bit (eqb x r)) (nameAt (regions S)) (entries S) ∙ entries-named r ∙ distinct-one (L .regions) r (a .valid .names .distinct) l))
 
     pub deep : leb (levelAt (regions S) i) 16 ≡ true
     deep = le-leb (levelAt (regions S) i) 16 (omega (arith, a .onRegions .entry r l .level, valid-parent .deep))
@@ -130,7 +103,7 @@ module _ {L : Model} {sp : List ℕ} {ids : ℕ → List ℕ} (S : Store) (a : A
         let o = g .oldest in
         rw (a .onRegions .entry r l .oldest, entry-name (a .onRegions) r l) (by-test (eqb o 0) (λ e. rw (eqb-true o 0 e)) (λ e.
         let h : homeIn L o ≡ r = eqb-true (homeIn L o) (g .name) (or-other (eqb o 0) (eqb (homeIn L o) (g .name)) own e) ∙ name-is (L .regions) r l in
-        or-right (eqb (spot sp o) 0) _ (rw (pointer-home S a o (or-right (eqb o 0) (livesIn L (homeIn L o)) (rw h l)), h) (eq-eqb r r refl))))
+        or-right (eqb (spot sp o) 0) _ (rw (home-is (begin-tells S a) (a .valid) (a .onObjects) o (or-right (eqb o 0) (livesIn L (homeIn L o)) (rw h l)), h) (eq-eqb r r refl))))
       where
         own : OwnOldest (homeIn L) g
         own = all-found (OwnOldest (homeIn L)) (called r) noRegion (L .regions) (a .valid .oldest) l

@@ -1,7 +1,7 @@
 -- What an accepted make leaves represents the model that it leaves.
 -- Assumes nothing.
 use mathlib.Core.Path.{_≡_, refl, sym, _∙_, subst}
-use mathlib.Core.Logic.{inl, _≢_}
+use mathlib.Core.Logic.{inl}
 use mathlib.Core.Bool.{true, false, _&&_, or-false, false≢true}
 use mathlib.Core.List.{List, []}
 use Prim.Native.Nat.{ℕ, zero, suc, _*_, _/_, _%_, _≤_, _<_, min}
@@ -45,18 +45,18 @@ module _ (n : ℕ) where
   g : Regions
   g = (blank n 1) .regions
 
-  p : Pages
+  abbrev pub p : Pages
   p = (blank n 1) .pages
 
   k : Kinds
   k = (blank n 1) .kinds
 
-  all-free : (j : ℕ) → ownerAt p j ≡ 0
-  unfolding ownerAt p blank
+  pub all-free : (j : ℕ) → ownerAt p j ≡ 0
+  unfolding ownerAt blank
   all-free j = zeros 256 j
 
   free-pages : n ≤ 256 → pagesOf p 0 ≡ n
-  unfolding pagesOf pageCount p blank
+  unfolding pagesOf pageCount blank
   free-pages h = sum-below (λ j. bit (eqb (ownerAt p j) 0)) (λ j. 1) (min n 256) (λ j l. rw (all-free j)) ∙ sum-ones (upTo (min n 256)) ∙ length-upTo (min n 256) ∙ omega arith
 
   held-pages : pagesOf p 1 ≡ 0
@@ -69,7 +69,7 @@ module _ (n : ℕ) where
   no-kind (suc m) = rw (lt-ltb 0 (suc m) (omega arith), lt-leb (suc m) 0 (omega arith))
 
   pub fresh-represents : 1 ≤ n → n ≤ 256 → Represents (fresh n) [] (λ j. []) (store (blank n 1) (replicate (64 * n) 0))
-  unfolding blank widthAt slotAt nameAt entryOf tagOf parentAt levelAt newestAt oldestAt countAt stored inWords inFrames g p k
+  unfolding blank widthAt slotAt nameAt entryOf tagOf parentAt levelAt newestAt oldestAt countAt stored inWords inFrames g k
   fresh-represents low high = record {
     onFrames = record { standing = refl; counted = refl; widths = λ i h. absurd (omega arith); slots = λ i s h l. absurd (omega arith) };
     onKinds = record { declared = refl; sizes = no-kind; few = λ m h. absurd (omega arith); marked = λ m w h. absurd (unmarked m w h) };

@@ -35,7 +35,7 @@ use Rattle.pages.specs.Pages.{pageCount, ownerAt, pagesOf}
 use Rattle.outcomes.specs.Store.{Store, kinds, regions, pages}
 use Rattle.outcomes.specs.Shape.{Shaped, KindsShaped, RegionsShaped}
 use Rattle.outcomes.specs.Outcome.{Accepted, withRegions}
-use Rattle.refinement.specs.Represents.{tagFor, KindsAgree, EntryAgrees, RegionsAgree, RoomAgrees, PagesAgree, Alive, idsIn, ObjectsAgree, Represents}
+use Rattle.refinement.specs.Represents.{tagFor, KindsAgree, EntryAgrees, RegionsAgree, RoomAgrees, PagesAgree, Alive, idsIn, ObjectsAgree, Represents, Owned}
 use Rattle.refinement.specs.Laws.Tags.{Named, live-named, entry-name, entry-live, live-for, tag-for, parent-known, unused-free}
 use Rattle.refinement.specs.Laws.Kept.{regions-kept, pages-kept, tiles-kept}
 
@@ -221,7 +221,7 @@ module _ (L : Model) (sp : List ℕ) (g : Regions) (v : Valid L) (a : RegionsAgr
   unfolding tagOf
   unowned p words b j h = ne-eqb (ownerAt p j) (i + 1) (λ e. go e (b .owned j h))
     where
-      go : ownerAt p j ≡ i + 1 → (ownerAt p j ≡ 0) ⊎ ((r : ℕ) × (livesIn L r ≡ true) × (ownerAt p j ≡ tagOf g r)) → ⊥
+      go : ownerAt p j ≡ i + 1 → Owned L g p j → ⊥
       go e (inl z) = omega arith
       go e (inr (r, q, o)) = entry-other r q (omega arith)
 
@@ -256,7 +256,7 @@ module _ (L : Model) (sp : List ℕ) (g : Regions) (v : Valid L) (a : RegionsAgr
         (λ o. rw (region-more (L .regions) (added L u l) r o, tag-same r o, entry-same r o, newest-old (entryOf g r) (entry-other r o)) (b .room r o)) (rw (region-last, entry-last, newest-new) refl);
   }
     where
-      go : (j : ℕ) → (ownerAt p j ≡ 0) ⊎ ((r : ℕ) × (livesIn L r ≡ true) × (ownerAt p j ≡ tagOf g r))
+      go : (j : ℕ) → Owned L g p j
           → (ownerAt p j ≡ 0) ⊎ ((r : ℕ) × (live (more L u l) r ≡ true) × (ownerAt p j ≡ tagOf (withRegion g i t l) r))
       go j (inl z) = inl z
       go j (inr (r, q, o)) = inr (r, live-more (L .regions) (added L u l) r q, o ∙ sym (tag-same r q))

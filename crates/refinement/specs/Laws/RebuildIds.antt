@@ -71,12 +71,12 @@ module _ (S : Store) where
       let t = any-index (λ q. eqb (q + 1) v) (headers S) 0 (sym (any-map (at v) (objectAt S) (headers S)) ∙ ap (any (at v)) (sym (begin-objects S)) ∙ e) in
       (t .0, t .1, sym (eqb-true (header (t .0) + 1) v (t .2)))
 
-  pub leads-at : (i : ℕ) → i < length (headers S) → leads (begin S) (header i + 1) ≡ true
+  leads-at : (i : ℕ) → i < length (headers S) → leads (begin S) (header i + 1) ≡ true
   unfolding leads
   leads-at i h = rw (begin-objects S, any-map (at (header i + 1)) (objectAt S) (headers S)) (any-in (λ q. eqb (q + 1) (header i + 1)) (headers S) i 0 h (eq-eqb (header i + 1) (header i + 1) refl))
 
   -- and its region is the one that holds that page
-  pub home-at : (i : ℕ) → i < length (headers S) → homeOf (begin S) (header i + 1) ≡ holderOf S (header i / 64)
+  home-at : (i : ℕ) → i < length (headers S) → homeOf (begin S) (header i + 1) ≡ holderOf S (header i / 64)
   home-at i h = let e = add-one (header i) in rw e (home-is S (header i) (rw e at (leads-at i h)))
 
   -- only a pointer that leads somewhere has a region

@@ -29,6 +29,7 @@ use Rattle.outcomes.specs.Laws.Pointers.{valueAt, marks-length, marks-at, every
 use Rattle.refinement.specs.Represents.{spot, Alive, Laid}
 use Rattle.refinement.specs.Rebuild.{places, idOf, readWord, readObject, readRegion, rebuilt}
 use Rattle.refinement.specs.Laws.Tags.{zero-dead}
+use Rattle.refinement.specs.Laws.Tells.{listed}
 use Rattle.refinement.specs.Laws.RebuildObjects.{wordsAt}
 use Rattle.refinement.specs.Laws.RebuildIds.{header, spot-at, stands-at, Known, known}
 use Rattle.refinement.specs.Laws.RebuildRegions.{live-name}
@@ -43,10 +44,6 @@ or-known false b c e = both b c e .0
 or-rule : (a b c : Bool) → (a || (b && c)) ≡ true → (a || c) ≡ true
 or-rule true b c e = refl
 or-rule false b c e = both b c e .1
-
--- a region as the history lists it
-abbrev pub listed : Region → history.Region
-listed g = record { name = g .name; parent = g .parent }
 
 module _ (S : Store) where
   pub begin-regions : (begin S) .regions ≡ map listed ((rebuilt S) .regions)

@@ -82,7 +82,7 @@ module _ (S : Store) (sh : Shaped S) (so : Sound S) where
   unfolding idsOn headersOn headersTo
   tiled j h n = rw (on-held j h n, ← (taken-sum S sh so j h n)) (tiles-walk 64 (64 * j) (64 * j + takenAt (pages S) j) (rw (on-held j h n) at (tiles-on j h)))
 
-  pub objects-length : length ((rebuilt S) .objects) ≡ length (headers S)
+  objects-length : length ((rebuilt S) .objects) ≡ length (headers S)
   unfolding rebuilt
   objects-length = length-map (headers S) (readObject S)
 

@@ -1,10 +1,10 @@
 -- The outside pointers that are counted in a store are the model's.
 -- Assumes nothing.
 use mathlib.Core.Path.{_≡_, refl, sym, ap, _∙_, fun-ext}
-use mathlib.Core.Logic.{_⊎_, inl, inr, _≢_}
+use mathlib.Core.Logic.{inl, inr, _≢_}
 use mathlib.Core.Bool.{Bool, true, false, not, _&&_, _||_}
 use mathlib.Core.List.{List, [], _∷_}
-use Prim.Native.Nat.{ℕ, suc, _+_, _-_, _<_}
+use Prim.Native.Nat.{ℕ, suc, _+_, _<_}
 use native.Mathlib.Omega.{arith}
 use lib.Dec.{eqb}
 use lib.ListN.{length, getD}
@@ -28,7 +28,7 @@ use Rattle.pages.specs.Pages.{pageCount, ownerAt, ownerOf}
 use Rattle.objects.specs.Objects.{freeWordsOn}
 use Rattle.outcomes.specs.Store.{Store, frames, kinds, regions, pages, slotTargets, slotsInto, wordsInto, outsideOf}
 use Rattle.outcomes.specs.Outcome.{Accepted}
-use Rattle.refinement.specs.Represents.{spot, Alive, wordsIn, idsIn, tagFor, FramesAgree, KindsAgree, RegionsAgree, PagesAgree, ObjectsAgree, Represents}
+use Rattle.refinement.specs.Represents.{spot, Alive, wordsIn, idsIn, tagFor, FramesAgree, KindsAgree, RegionsAgree, PagesAgree, ObjectsAgree, Represents, Owned}
 use Rattle.refinement.specs.Laws.Tags.{Named, zero-dead, live-for, tag-for, for-same, tag-same, subregions-are}
 use Rattle.refinement.specs.Laws.Reads.{frame-count, page-count}
 use Rattle.refinement.specs.Laws.Counts.{leads-into, slots-into}
@@ -71,7 +71,7 @@ module _ (L : Model) (sp : List ℕ) (ids : ℕ → List ℕ) (g : Regions) (p :
           each : (x : Region) → livesIn L (x .name) ≡ true → pick (eqb r (x .name)) n 0 ≡ pick (eqb (tagFor g r) (tagOf g (x .name))) n 0
           each x l = ap (λ b. pick b n 0) (sym (for-same onRegions r (x .name) k (live-for onRegions (x .name) l)) ∙ ap (eqb (tagFor g r)) (tag-for onRegions (x .name) l))
 
-      page : (j : ℕ) → (ownerAt p j ≡ 0) ⊎ ((r : ℕ) × (livesIn L r ≡ true) × (ownerAt p j ≡ tagOf g r)) → pick (eqb (ownerAt p j) 0) 0 (c j) ≡ sum (λ x. pick (eqb (ownerAt p j) (tagOf g (x .name))) (c j) 0) (L .regions)
+      page : (j : ℕ) → Owned L g p j → pick (eqb (ownerAt p j) 0) 0 (c j) ≡ sum (λ x. pick (eqb (ownerAt p j) (tagOf g (x .name))) (c j) 0) (L .regions)
       page j (inl e) = rw e (owner 0 refl (c j))
       page j (inr (r, l, e)) = rw (e, ← (tag-for onRegions r l)) (owner r (live-for onRegions r l) (c j))
 

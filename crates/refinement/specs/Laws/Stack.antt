@@ -8,18 +8,18 @@ use Prim.Native.Nat.{ℕ, suc, _+_, _-_, _*_, _≤_, _<_}
 use native.Mathlib.Omega.{arith}
 use lib.Dec.{eqb, ltb, leb}
 use lib.ListN.{length, getD, set, take, replicate, length-append, length-take, length-replicate, getD-replicate, List·getD-append}
-use lib.Seq.{sets, getD-set-same, getD-set-other, getD-append-seam, getD-take, drop-nil}
+use lib.Seq.{sets, getD-set-same, getD-set-other, getD-append-seam, getD-take}
 use borrow.Author.Tests.{ltb-true, ltb-false, leb-true, leb-false, le-leb}
 use Rattle.lists.specs.Lists.{pick, times, All}
-use Rattle.lists.specs.Laws.Tests.{neither, by-same}
+use Rattle.lists.specs.Laws.Tests.{by-test, neither, by-same}
 use Rattle.lists.specs.Laws.Sets.{getD-sets-in, getD-sets-out}
 use Rattle.model.specs.Model.{Model, Answer, livesIn, homeIn, last, top, beneath, slot, inFrames, stored, gives, push, dropFrame, handBack}
 use Rattle.model.specs.Calls.{checks, refusal, reply, accepted, lacks, popFrame}
 use Rattle.model.specs.Valid.{Valid}
 use Rattle.model.specs.Laws.Passed.{passed}
 use Rattle.model.specs.Laws.Slots.{pop-valid}
-use Rattle.model.specs.Moves.{between, uncounted}
-use Rattle.model.specs.Laws.Counts.{push-stored, pop-stored, none-uncounted, top-uncounted}
+use Rattle.model.specs.Moves.{uncounted}
+use Rattle.model.specs.Laws.Counts.{push-stored, pop-stored, zero-uncounted, none-uncounted, top-uncounted}
 use Rattle.frames.specs.declared.Frames.{Frames}
 use Rattle.frames.specs.Frames.{topFrame, widthAt, slotAt, pushed, uncounts, popped}
 use Rattle.regions.specs.Regions.{tagOf, countAt, moved, withCounts}
@@ -73,6 +73,10 @@ push-frames sp fs m f n z few small sized h = record {
 
 -- ---- a frame goes
 
+-- whether n frames are left or none, m falls by the same rule: with none it is 0
+pub mark-falls : (n m : ℕ) → m ≤ n → pick (ltb 0 n && leb n m) (m - 1) m ≡ pick (leb n m) (m - 1) m
+mark-falls n m low = by-test (ltb 0 n) (λ e. rw e) (λ e. let z = ltb-false 0 n e in rw (e, le-leb n m (omega arith)) (omega arith))
+
 uncounts-is : {sp : List ℕ} {fs : List (List ℕ)} {m : ℕ} {f : Frames} → FramesAgree sp fs m f → uncounts f ≡ (ltb 0 (last fs) && leb (last fs) m)
 unfolding uncounts
 uncounts-is h = rw (top-frame h, h .counted)
@@ -82,7 +86,7 @@ pop-frames : (sp : List ℕ) (fs : List (List ℕ)) (m : ℕ) (f : Frames) → m
 unfolding popped widthAt slotAt
 pop-frames sp fs m f low h = record {
   standing = simp length-take (omega (arith, top-frame h));
-  counted = rw (uncounts-is h, h .counted) (lower (ltb 0 (last fs)) refl);
+  counted = rw (uncounts-is h, h .counted) (mark-falls (last fs) m low);
   widths = λ i k. rw (getD-take (last fs) fs i [] (below i k)) (h .widths i (stands i k));
   slots = λ i s k l. rw (getD-take (last fs) fs i [] (below i k)) (h .slots i s (stands i k) (rw (getD-take (last fs) fs i [] (below i k)) at l));
 }
@@ -92,14 +96,6 @@ pop-frames sp fs m f low h = record {
 
     stands : (i : ℕ) → i < length (take (last fs) fs) → i < length fs
     stands i k = omega (arith, below i k)
-
-    lower : (b : Bool) → ltb 0 (last fs) ≡ b → pick (b && leb (last fs) m) (m - 1) m ≡ pick (leb (last fs) m) (m - 1) m
-    lower true e = refl
-    lower false e = rw (le-leb (last fs) m (omega (arith, ltb-false 0 (last fs) e))) (omega (arith, ltb-false 0 (last fs) e))
-
-zero-uncounted : (L : Model) → L .counted ≡ 0 → uncounted L ≡ []
-unfolding uncounted
-zero-uncounted L e = ap (λ m. between ((popFrame L) .counted) m (L .frames)) e ∙ drop-nil ((popFrame L) .counted)
 
 module _ (L : Model) (sp : List ℕ) (ids : ℕ → List ℕ) (S : Store) (v : Valid L) (h : Represents L sp ids S) where
   -- the slots that leave the count of a live region r

@@ -3,7 +3,7 @@
 use mathlib.Core.Path.{_≡_, refl, sym, ap, _∙_, fun-ext}
 use mathlib.Core.Logic.{_⊎_, inl, inr, _≢_}
 use mathlib.Core.Bool.{Bool, true, false, not, _&&_, _||_, true≢false}
-use mathlib.Core.List.{List, [], _∷_}
+use mathlib.Core.List.{List}
 use Prim.Native.Nat.{ℕ, zero, suc, _<_}
 use native.Mathlib.Omega.{arith}
 use lib.Dec.{eqb, ltb}
@@ -15,7 +15,7 @@ use Rattle.lists.specs.Laws.All.{all-map}
 use Rattle.lists.specs.Laws.Sums.{sum-same, sum-ones, sum-pick}
 use Rattle.lists.specs.Laws.Finds.{any-count, find-none, all-find}
 use Rattle.lists.specs.Laws.UpTo.{any-one, one-passes, sum-below}
-use Rattle.model.specs.Model.{Model, Region, noRegion, called, livesIn, parentIn, subregions}
+use Rattle.model.specs.Model.{Model, noRegion, called, livesIn, parentIn, subregions}
 use Rattle.model.specs.Valid.{Valid}
 use Rattle.model.specs.Laws.Regions.{distinct-once, found-itself}
 use Rattle.regions.specs.declared.Regions.{Regions}

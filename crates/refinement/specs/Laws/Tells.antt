@@ -2,14 +2,13 @@
 -- Assumes nothing.
 use mathlib.Core.Path.{_≡_, refl, sym, ap, _∙_, fun-ext}
 use mathlib.Core.Bool.{Bool, true, false, not, false≢true}
-use mathlib.Core.List.{List, [], _∷_, map}
-use Prim.Native.Nat.{ℕ, zero, suc, _+_, _-_, _≤_, _<_}
-use native.Mathlib.Numerals.{add-one}
+use mathlib.Core.List.{List, map}
+use Prim.Native.Nat.{ℕ, zero, suc, _+_, _-_, _≤_}
 use native.Mathlib.Omega.{arith}
 use lib.Dec.{eqb, ltb}
-use lib.ListN.{length, getD, length-map}
+use lib.ListN.{length, length-map}
 use borrow.Author.Tests.{eq-eqb, ne-eqb, not-false}
-use Rattle.lists.specs.Lists.{bit, pick, every, sum, count, from, times}
+use Rattle.lists.specs.Lists.{bit, pick, every, sum, count, from}
 use Rattle.lists.specs.Laws.Tests.{by-test, bit-zero, or-right}
 use Rattle.lists.specs.Laws.All.{all-map}
 use Rattle.lists.specs.Laws.Sums.{sum-zero, sum-nothing}
@@ -19,17 +18,19 @@ use Rattle.model.specs.Valid.{Valid}
 use Rattle.model.specs.Laws.Slots.{Known, in-list}
 use Rattle.model.specs.Laws.Paged.{distinct-one}
 use Rattle.regions.specs.declared.Regions.{Regions}
-use Rattle.regions.specs.Regions.{nameAt, tagOf}
 use Rattle.pages.specs.declared.Pages.{Pages}
-use Rattle.pages.specs.Pages.{ownerAt}
-use Rattle.outcomes.specs.History.{History, isLive, parentOf, at, leads, homeOf, holders}
+use Rattle.outcomes.specs.History.{History, isLive, parentOf, at, leads, homeOf}
 use Rattle.outcomes.specs.History as history
-use Rattle.refinement.specs.Represents.{spot, Alive, idsIn, RegionsAgree, ObjectsAgree}
-use Rattle.refinement.specs.Laws.Tags.{entry-name}
+use Rattle.refinement.specs.Represents.{spot, Alive, idsIn, ObjectsAgree}
 use Rattle.refinement.specs.Laws.Reads.{by-known, spot-same}
-use Rattle.refinement.specs.Laws.RebuildLaid.{listed}
-use Rattle.refinement.specs.Laws.Rebuild.{met}
 use Rattle.lists.specs.Laws.Kept.{sum-single}
+
+-- a region, and object p, as a history lists them
+abbrev pub listed : Region → history.Region
+listed g = record { name = g .name; parent = g .parent }
+
+abbrev pub met : Model → List ℕ → ℕ → history.Object
+met L sp p = record { place = spot sp p - 1; kind = (object (L .objects) p) .kind; home = homeIn L p }
 
 -- whatever is added up over the regions or the objects of the history comes to the same over the model's, of whose objects only those of live regions count
 pub record Tells (L : Model) (sp : List ℕ) (h : History) : Type 0 where
@@ -38,17 +39,6 @@ pub record Tells (L : Model) (sp : List ℕ) (h : History) : Type 0 where
   pub counted : h .counted ≡ L .counted
   pub regions : (f : history.Region → ℕ) → sum f (h .regions) ≡ sum (λ g. f (listed g)) (L .regions)
   pub objects : (f : history.Object → ℕ) → sum f (h .objects) ≡ sum (λ q. pick (livesIn L (homeIn L q)) (f (met L sp q)) 0) (idsIn L)
-
--- who holds a page whose owner has tag t
-abbrev pub holding : List ℕ → ℕ → List ℕ
-holding names zero = []
-holding names (suc i) = getD names i 0 ∷ []
-
--- a history that tells of the pages p, whose owners are entries of `names`
-pub record TellsPages (h : History) (names : List ℕ) (p : Pages) : Type 0 where
-  pub pages : h .pages ≡ p .made
-  pub free : (j : ℕ) → j < p .made → times j (h .free) ≡ bit (eqb (ownerAt p j) 0)
-  pub held : (j : ℕ) → j < p .made → holders h j ≡ holding names (ownerAt p j)
 
 -- one of the numbers 1 to n
 sum-at : (f : ℕ → ℕ) (n q : ℕ) → 1 ≤ q → q ≤ n → sum (λ x. pick (eqb x q) (f x) 0) (from 1 n) ≡ f q
@@ -121,9 +111,3 @@ module _ {L : Model} {sp : List ℕ} {h : History} (t : Tells L sp h) where
         where
           none : history.Object
           none = record { place = 0; kind = 0; home = 0 }
-
--- ---- pages
-
-pub holding-tag : {L : Model} {sp : List ℕ} {g : Regions} → RegionsAgree L sp g → (r : ℕ) → livesIn L r ≡ true → holding (g .names) (tagOf g r) ≡ r ∷ []
-unfolding tagOf nameAt
-holding-tag {L} {sp} {g} a r l = ap (holding (g .names)) (add-one _) ∙ ap (λ n. n ∷ []) (entry-name a r l)

@@ -9,7 +9,7 @@ use lib.Dec.{eqb, leb}
 use lib.ListN.{length, getD, take}
 use borrow.Author.Tests.{eqb-true, ne-eqb, not-true}
 use Rattle.lists.specs.Lists.{bit, pick, every, keep, sum, upTo}
-use Rattle.lists.specs.Laws.Tests.{by-test, both, pick-same}
+use Rattle.lists.specs.Laws.Tests.{by-test, both, or-right, pick-same}
 use Rattle.lists.specs.Laws.All.{all-map, all-change, all₂-in}
 use Rattle.lists.specs.Laws.Sums.{sum-map, sum-keep}
 use Rattle.lists.specs.Laws.Finds.{true-every, all-keep, getD-map-in}
@@ -21,14 +21,13 @@ use Rattle.frames.specs.Frames.{slotAt}
 use Rattle.outcomes.specs.Store.{Store, frames, regions, pages}
 use Rattle.outcomes.specs.History.{History, Word, slotsOf, pointersOf, leads, homeOf, parentOf, slotsInto, wordsInto, uncountedInto, slotsLead, wordsLead}
 use Rattle.outcomes.specs.History as history
 use Rattle.refinement.specs.Represents.{spot, Alive, wordsIn, idsIn, FramesAgree, ObjectsAgree}
 use Rattle.refinement.specs.Laws.Reads.{by-known, spot-zero}
 use Rattle.refinement.specs.Laws.Counts.{word-known}
 use Rattle.refinement.specs.Laws.Walks.{marksIn}
 use Rattle.refinement.specs.Laws.Report.{weight, ids-objects}
 use Rattle.lists.specs.Laws.Kept.{sum-above}
-use Rattle.refinement.specs.Laws.Rebuild.{met}
-use Rattle.demands.specs.Laws.Tells.{Tells, frames-length, each-met, parent-is, leads-to, home-is}
+use Rattle.refinement.specs.Laws.Tells.{met, Tells, frames-length, each-met, parent-is, leads-to, home-is}
 
 module _ {L : Model} {sp : List ℕ} {ids : ℕ → List ℕ} {h : History} (S : Store) (t : Tells L sp h) (v : Valid L) (onFrames : FramesAgree sp (L .frames) (L .counted) (frames S))
     (onObjects : ObjectsAgree L sp ids (regions S) (pages S) (S .heap)) where
@@ -38,11 +37,7 @@ module _ {L : Model} {sp : List ℕ} {ids : ℕ → List ℕ} {h : History} (S :
   width-is i k = ap (λ l. getD l i 0) (t .frames) ∙ getD-map-in length (L .frames) i 0 [] k
 
   pointer-leads : (q : ℕ) → Known L q → (eqb (spot sp q) 0 || leads h (spot sp q)) ≡ true
-  pointer-leads q k = by-known L q k (λ e. rw e) (λ l. rw (leads-to t v onObjects q l) (or-true (eqb (spot sp q) 0)))
-    where
-      or-true : (b : Bool) → (b || true) ≡ true
-      or-true true = refl
-      or-true false = refl
+  pointer-leads q k = by-known L q k (λ e. rw e) (λ l. or-right (eqb (spot sp q) 0) (leads h (spot sp q)) (leads-to t v onObjects q l))
 
   pub slots-lead : slotsLead h S ≡ true
   unfolding slotsLead slotsOf

@@ -1,0 +1,54 @@
+-- What calls tell, computed on small histories, and a stored count of the memory `small` of Examples. Each case is false of an edit that must be refused, which it names.
+-- Assumes nothing.
+use mathlib.Core.Path.{_≡_, refl}
+use mathlib.Core.Bool.{true}
+use mathlib.Core.List.{List, [], _∷_}
+use Prim.Native.Nat.{ℕ, _+_}
+use lib.Dec.{eqb}
+use lib.ListN.{length}
+use Rattle.lists.specs.Lists.{every, times}
+use Rattle.model.specs.Model.{push, refusedBy}
+use Rattle.frames.specs.Frames.{frameCount, widthAt, slotAt}
+use Rattle.kinds.specs.Kinds.{kindCount, sizeOf, markAt}
+use Rattle.regions.specs.Regions.{nameAt, nameOf, entryOf, parentAt, countAt}
+use Rattle.pages.specs.Pages.{pageCount, ownerAt, takenAt, isFree}
+use Rattle.objects.specs.Objects.{walk, headersTo, headersOn}
+use Rattle.outcomes.specs.History.{History, begin, entries, listedRegions, listedKinds, listedFrames, listedHeld, listedFree, metOn, slotsOf, pointersOf, homeOf, slotsInto, wordsInto, outside, storedCount, subregions, holders}
+use Rattle.outcomes.specs.Examples.{small}
+use Rattle.refinement.specs.Runs.{Event}
+use Rattle.demands.specs.Told.{opening, withFrames, born, popped, objectMade, ended, told, note}
+
+-- three frames, the lower two counted; an object of region 1 at the start of page 1; a push that was refused
+abbrev three : History
+three = withFrames (opening 2) (2 ∷ 1 ∷ 1 ∷ []) 2
+
+abbrev one : History
+one = objectMade (opening 2) 1 1 65
+
+abbrev refused : Event
+refused = record { call = push 9; answer = refusedBy 8; left = small }
+
+abbrev cases : List (ℕ × ℕ)
+cases =
+    -- drop_keeps_m
+    ((popped three) .counted, 1)
+    -- delete_leaves_m
+    ∷ ((ended (withFrames three (three .frames) 0) 1) .counted, 2)
+    -- page_taken_stays_free
+    ∷ (times 1 (one .free), 0)
+    ∷ (times 0 (one .free), 1)
+    ∷ (length (holders one 1), 1)
+    -- deleted_region_holds_pages
+    ∷ (times 1 ((ended one 1) .free), 1)
+    ∷ (length (holders (ended one 1) 1), 0)
+    -- refused_call_is_noted
+    ∷ (length ((note refused (opening 2)) .frames), 0)
+    -- subregion_without_parent
+    ∷ (subregions (born (opening 2) 2 1) 1, 1)
+    -- uncounted_frames_left_out: one of region 5's outside pointers is in the frame that is not counted
+    ∷ (outside (begin small) small 5, storedCount small 5 + 1)
+    ∷ []
+
+pub computed : every (λ p. eqb (p .0) (p .1)) cases ≡ true
+unfolding opening born popped ended told note frameCount widthAt slotAt kindCount sizeOf markAt nameAt nameOf entryOf parentAt countAt pageCount ownerAt takenAt isFree walk headersTo headersOn begin entries listedRegions listedKinds listedFrames listedHeld listedFree metOn slotsOf pointersOf homeOf slotsInto wordsInto outside storedCount subregions
+computed = refl
