@@ -4,7 +4,6 @@ use kinds::Kinds;
 use regions::Regions;
 use state::State;
 ghost use mathlib.Core.Path.{_≡_};
-ghost use Rattle.lists.specs.Lists.{every, upTo};
 ghost use Rattle.outcomes.specs.Sound.{within};
 ghost use Rattle.audit_state.specs.Fits.{numbersFit, marksFit, kindsFit, widthsFit, placedAt, namesakes, regionFits, entryFits, regionsFit, stateFits};
 

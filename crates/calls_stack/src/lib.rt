@@ -8,7 +8,6 @@ ghost use mathlib.Core.Path.{_≡_};
 ghost use mathlib.Core.List.{[]};
 ghost use Rattle.model.specs.Model.{push, dropFrame, handBack};
 ghost use Rattle.model.specs.Calls.{reason};
-ghost use Rattle.regions.specs.Regions.{moved};
 ghost use Rattle.outcomes.specs.Outcome.{Outcome, answerOf, store};
 ghost use Rattle.calls_stack.specs.Stack.{pushTests, dropTests, uncountedTop, poppedState};
 

@@ -2,11 +2,11 @@
 -- The values of slots, words and counts are those of the store (document 01, The calls, on what is read from where).
 -- Assumes nothing.
 use mathlib.Core.Bool.{Bool, not, _&&_, _||_}
-use mathlib.Core.List.{List, [], _∷_, map}
+use mathlib.Core.List.{List, map}
 use Prim.Native.Nat.{ℕ, suc, _+_}
 use lib.Dec.{eqb, leb}
 use lib.ListN.{length, getD}
-use Rattle.lists.specs.Lists.{bit, pick, any, every, keep, find, sum, count, joined, upTo, times}
+use Rattle.lists.specs.Lists.{pick, any, every, keep, find, sum, count, joined, upTo, times}
 use Rattle.model.specs.Model.{marks, rule}
 use Rattle.frames.specs.Frames.{frameCount, widthAt, slotAt}
 use Rattle.kinds.specs.Kinds.{kindCount, sizeOf, markAt}
@@ -101,7 +101,7 @@ pointersOf h S o =
     let ms = marks (h .kinds) (o .kind) in
     keep (λ w. not (eqb (w .mark) 0)) (map (λ w. record { mark = getD ms w 0; value = getD (S .heap) (o .place + 1 + w) 0 }) (upTo (length ms)))
 
--- a pointer leads to the live object whose header stands at its value less 1
+-- whether a pointer v leads to object o: it is 1 plus the place of its header
 abbrev pub at : ℕ → Object → Bool
 at v o = eqb (o .place + 1) v
 
@@ -145,12 +145,12 @@ countsExact h S = every (λ g. eqb (storedCount S (g .name) + uncountedInto h S 
 unfoldable pub slotsLead : History → Store → Bool
 slotsLead h S = every (λ i. every (λ v. eqb v 0 || leads h v) (slotsOf h S i)) (upTo (length (h .frames)))
 
--- every pointer word is null, or leads to a live object and keeps its mark's rule
+-- so does every pointer word, and to one that its mark allows
 unfoldable pub wordsLead : History → Store → Bool
 wordsLead h S =
     every (λ o. every (λ w. eqb (w .value) 0 || (leads h (w .value) && rule (w .mark) (homeOf h (w .value)) (o .home) (parentOf h (o .home)))) (pointersOf h S o)) (h .objects)
 
--- each page is free or held by one live region
+-- every page made is in one list only, once: free, or held, and then by a region that lives
 abbrev pub holders : History → ℕ → List ℕ
 holders h j = map (λ t. t .region) (keep (λ t. eqb (t .page) j) (h .held))
 

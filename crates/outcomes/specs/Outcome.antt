@@ -3,12 +3,12 @@
 -- Assumes nothing.
 use mathlib.Core.Path.{_≡_}
 use mathlib.Core.Bool.{Bool, true, false, not, _&&_, _||_}
-use mathlib.Core.List.{List, [], _∷_, map}
+use mathlib.Core.List.{List, [], _∷_}
 use Prim.Native.Nat.{ℕ, zero, suc, _+_, _-_, _*_, _/_}
 use lib.Dec.{eqb, ltb, leb}
 use lib.ListN.{length, set, take, drop, replicate}
 use lib.Seq.{sets}
-use Rattle.lists.specs.Lists.{bit, pick, any, every, keep, joined, from, upTo}
+use Rattle.lists.specs.Lists.{bit, pick, keep, joined, from, upTo}
 use Rattle.model.specs.Model.{Answer, Call, declare, newRegion, subregion, push, dropFrame, handBack, allocate, first, copy, fetch, clear, load, setPointer, put, get, view, same, about, report, totals, audit, delete, four, gives, refusedBy}
 use Rattle.model.specs.Calls.{reason, _yields_, makes}
 use Rattle.frames.specs.declared.Frames.{Frames}

@@ -2,12 +2,11 @@
 -- Assumes nothing.
 use mathlib.Core.Path.{_≡_}
 use mathlib.Core.Bool.{Bool, true, not, _&&_, _||_}
-use mathlib.Core.List.{List, map}
-use Prim.Native.Nat.{ℕ, zero, suc, _+_, _-_, _*_, _≤_}
+use mathlib.Core.List.{map}
+use Prim.Native.Nat.{ℕ, zero, suc, _+_, _-_, _*_}
 use lib.Dec.{eqb, ltb, leb}
 use lib.ListN.{length, getD}
 use Rattle.lists.specs.Lists.{every, sum, upTo, times, among}
-use Rattle.frames.specs.Frames.{frameCount, widthAt}
 use Rattle.kinds.specs.Kinds.{sizeOf}
 use Rattle.regions.specs.Regions.{nameAt, parentAt, levelAt, newestAt, oldestAt}
 use Rattle.pages.specs.Pages.{pageCount, ownerAt}

@@ -1,20 +1,20 @@
 -- Ways to what the dispatcher promises.
 -- Assumes nothing.
-use mathlib.Core.Path.{_≡_, refl, sym, ap, subst, subst⁻¹, _∙_}
+use mathlib.Core.Path.{_≡_, refl, sym, ap, subst⁻¹}
 use mathlib.Core.Logic.{_⊎_, inl, inr, _≢_}
-use mathlib.Core.Bool.{Bool, true, false, _&&_}
-use mathlib.Core.List.{List, [], _∷_}
+use mathlib.Core.Bool.{false, _&&_}
+use mathlib.Core.List.{List, []}
 use Prim.Native.Nat.{ℕ, zero, suc, _+_, _≤_, _<_}
 use native.Mathlib.Omega.{arith}
 use lib.Dec.{leb}
 use borrow.Author.Tests.{leb-true}
 use Rattle.lists.specs.Lists.{All, from}
 use Rattle.lists.specs.Laws.Tests.{by-test, by-same, both}
-use Rattle.model.specs.Model.{Answer, Call, view, refusedBy}
+use Rattle.model.specs.Model.{Call, view, refusedBy}
 use Rattle.state.specs.declared.State.{State}
 use Rattle.state.specs.declared.Reply.{Reply}
 use Rattle.outcomes.specs.Store.{Store, slot}
-use Rattle.outcomes.specs.Outcome.{Outcome, Accepted, answerOf, store, refusal, viewed}
+use Rattle.outcomes.specs.Outcome.{Accepted, answerOf, store, refusal, viewed}
 use Rattle.outcomes.specs.Laws.Steps.{by-refusal, by-effect}
 use Rattle.store.specs.Dispatch.{decoded, OutcomeOf, DispatchedBy, Dispatched}
 

@@ -5,7 +5,7 @@ use mathlib.Core.Bool.{true}
 use mathlib.Core.List.{List, [], _∷_, map}
 use Prim.Native.Nat.{ℕ, suc, _+_}
 use lib.Dec.{eqb}
-use lib.ListN.{replicate, length, getD}
+use lib.ListN.{replicate}
 use Rattle.lists.specs.Lists.{bit, every, upTo}
 use Rattle.model.specs.Model.{declare, newRegion, subregion, allocate}
 use Rattle.model.specs.Calls.{makes}
@@ -13,8 +13,8 @@ use Rattle.frames.specs.Frames.{frameCount, topFrame, widthAt, slotAt, putSlot}
 use Rattle.kinds.specs.Kinds.{kindCount, sizeOf, markAt, withKind, wrongMarks}
 use Rattle.regions.specs.Regions.{nameAt, entryOf, tagOf, isLive, liveCount, levelAt, newestAt, oldestAt, unused, withRegion, withPage}
 use Rattle.pages.specs.Pages.{pageCount, ownerAt, takenAt, isFree, pagesOf, wrongLength, withTaken}
-use Rattle.outcomes.specs.Store.{Store, frames, kinds, regions, pages, slot, size, roomy}
-use Rattle.outcomes.specs.Outcome.{withKinds, withRegions, withPages, withHeap, badLength, noFrame, lacks, dead, full, namesOut, checks, refusal, fillSlot, allocated, blank}
+use Rattle.outcomes.specs.Store.{Store, regions, pages, slot, size, roomy}
+use Rattle.outcomes.specs.Outcome.{withRegions, withPages, withHeap, badLength, noFrame, lacks, dead, full, namesOut, checks, refusal, fillSlot, allocated, blank}
 use Rattle.outcomes.specs.Examples.{small}
 
 -- `small` with a region more, named 8, which has no page yet

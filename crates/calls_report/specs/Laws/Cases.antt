@@ -9,7 +9,7 @@ use Rattle.kinds.specs.Kinds.{kindCount, sizeOf, markAt}
 use Rattle.regions.specs.Regions.{nameAt, entryOf, tagOf, parentAt, subregionsOf, countAt}
 use Rattle.pages.specs.Pages.{pageCount, ownerAt, takenAt, ownerIn, ownerOf, pagesOf}
 use Rattle.objects.specs.Objects.{walk, headersTo, headersOn, freeWords, freeWordsOn}
-use Rattle.outcomes.specs.Store.{Store, frames, kinds, regions, pages, slotsInto, wordsInto, outsideOf}
+use Rattle.outcomes.specs.Store.{Store, regions, pages, slotsInto, wordsInto, outsideOf}
 use Rattle.outcomes.specs.Outcome.{withHeap}
 use Rattle.outcomes.specs.Examples.{small}
 

@@ -1,7 +1,7 @@
-use mathlib.Core.Path.{_≡_, refl, sym, ap, _∙_}
+use mathlib.Core.Path.{refl, _∙_}
 use borrow.Author.Needs.{needs}
 use Rattle.outcomes.specs.Outcome.{Accepted, refusal, checks}
-use Rattle.outcomes.specs.Laws.Steps.{by-refusal, by-effect}
+use Rattle.outcomes.specs.Laws.Steps.{by-effect}
 use Rattle.calls_slots.proofs.totals.Statement.{statement}
 use Rattle.calls_slots.proofs.totals.Tie as tie
 

@@ -1,5 +1,3 @@
-use mathlib.Core.Path.{_≡_, sym, ap, _∙_}
-use mathlib.Core.List.{[]}
 use borrow.Author.Needs.{needs}
 use Rattle.regions.specs.Regions.{withCounts}
 use Rattle.regions.specs.Laws.Counts.{fits-counts, moved-none}

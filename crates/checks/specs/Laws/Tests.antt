@@ -3,10 +3,10 @@
 use mathlib.Core.Path.{_≡_, refl, sym, ap, subst⁻¹, _∙_}
 use mathlib.Core.Logic.{_≢_}
 use mathlib.Core.Bool.{Bool, true, false, _||_}
-use mathlib.Core.List.{List, [], _∷_, _++_}
+use mathlib.Core.List.{List, [], _∷_}
 use Prim.Native.Nat.{ℕ, _-_, _≤_}
 use native.Mathlib.Omega.{arith}
-use lib.Dec.{eqb, leb}
+use lib.Dec.{eqb}
 use lib.ListN.{length}
 use borrow.Author.Tests.{eqb-true, ne-eqb}
 use Rattle.lists.specs.Lists.{pick, find, upTo}
@@ -15,10 +15,8 @@ use Rattle.lists.specs.Laws.Finds.{all-find}
 use Rattle.lists.specs.Laws.UpTo.{all-upTo}
 use Rattle.model.specs.Model.{Answer, Call, gives, refusedBy}
 use Rattle.model.specs.Calls.{reason, _yields_}
-use Rattle.frames.specs.Frames.{topFrame, widthAt}
 use Rattle.regions.specs.declared.Regions.{Regions}
 use Rattle.regions.specs.Regions.{nameAt, entryOf, isLive}
-use Rattle.pages.specs.Pages.{wrongLength}
 use Rattle.state.specs.declared.State.{State}
 use Rattle.outcomes.specs.Store.{Store, frames, regions, pages}
 use Rattle.outcomes.specs.Outcome.{Outcome, Accepted, store, refusal, fillSlot, badLength, noFrame, oneFrame, lacks, lacksBeneath, dead}

@@ -9,7 +9,7 @@ use native.Mathlib.Omega.{arith}
 use lib.Dec.{eqb, ltb}
 use lib.ListN.{length, getD}
 use borrow.Author.Tests.{eqb-true, ltb-true, ltb-false, lt-ltb}
-use Rattle.lists.specs.Lists.{bit, pick, any, every, keep, find, sum, count, times, among, All, joined}
+use Rattle.lists.specs.Lists.{bit, pick, any, every, keep, find, sum, count, times, All, joined}
 use Rattle.lists.specs.Laws.Tests.{neither, both, by-test, bit-zero, pick-same}
 use Rattle.lists.specs.Laws.All.{all-map, all-in}
 use Rattle.lists.specs.Laws.Sums.{sum-keep, sum-map, sum-pick, sum-plus, sum-zero}
@@ -217,10 +217,3 @@ times-keep n f l = sum-keep (λ x. bit (eqb x n)) f l ∙ ap (λ g. sum g l) (fu
     go : (x : ℕ) (b : Bool) → eqb x n ≡ b → pick (f x) (bit (eqb x n)) 0 ≡ pick (f n) (bit (eqb x n)) 0
     go x true e = rw (eqb-true x n e)
     go x false e = rw (e, pick-same {A = ℕ} (f x) 0, pick-same {A = ℕ} (f n) 0)
-
-pub among-keep : (n : ℕ) (f : ℕ → Bool) (l : List ℕ) → among n (keep f l) ≡ (f n && among n l)
-among-keep n f l = rw (any-count (λ x. eqb x n) (keep f l), times-keep n f l, any-count (λ x. eqb x n) l) (go (f n))
-  where
-    go : (b : Bool) → ltb 0 (pick b (times n l) 0) ≡ (b && ltb 0 (times n l))
-    go true = refl
-    go false = refl

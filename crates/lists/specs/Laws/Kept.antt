@@ -78,10 +78,6 @@ pub sum-later : (f : ℕ → ℕ) (k n : ℕ) → sum f (from (suc k) n) ≡ sum
 sum-later f k zero = refl
 sum-later f k (suc n) = ap (λ x. f (suc k) + x) (sum-later f (suc k) n)
 
-pub map-later : {A : Type 0} (f : ℕ → A) (k n : ℕ) → map f (from (suc k) n) ≡ map (λ i. f (suc i)) (from k n)
-map-later f k zero = refl
-map-later f k (suc n) = ap (λ l. f (suc k) ∷ l) (map-later f (suc k) n)
-
 -- each number of a list stands in it
 pub among-self : (l : List ℕ) → All (λ n. among n l ≡ true) l
 among-self [] = tt

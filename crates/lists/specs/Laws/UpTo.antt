@@ -2,7 +2,7 @@
 -- Assumes nothing.
 use mathlib.Core.Path.{_≡_, refl, sym, ap, _∙_}
 use mathlib.Core.Logic.{_≢_, _⊎_, inl, inr}
-use mathlib.Core.Bool.{Bool, true, false, _&&_, _||_, and-true, or-false, true≢false}
+use mathlib.Core.Bool.{Bool, true, false, _&&_, true≢false}
 use mathlib.Core.List.{List, [], _∷_, _++_, map, append-nil}
 use Prim.Native.Nat.{ℕ, zero, suc, _+_, _-_, _<_, _≤_}
 use native.Mathlib.Nat.{le-of-suc-le-suc, not-suc-le-zero}
@@ -16,7 +16,7 @@ use Rattle.lists.specs.Lists.{bit, pick, any, every, keep, find, sum, su
 use Rattle.lists.specs.Laws.Tests.{by-test, by-same}
 use Rattle.lists.specs.Laws.All.{all-in}
 use Rattle.lists.specs.Laws.Sums.{sum-append, sum-same, sum-zero}
-use Rattle.lists.specs.Laws.Finds.{any-append, any-false, false-any, any-in, every-append, every-true, true-every, keep-append, joined-append, map-append, getD-map-in, find-append, find-none, find-passes, all-found}
+use Rattle.lists.specs.Laws.Finds.{false-any, any-in, every-true, true-every, keep-append, joined-append, map-append, getD-map-in, find-none, find-passes, all-found}
 
 from-last : (k n : ℕ) → from k (suc n) ≡ from k n ++ ((k + n) ∷ [])
 from-last k zero = let e : k ≡ k + 0 = omega arith in ap (λ x. x ∷ []) e
@@ -24,9 +24,6 @@ from-last k (suc n) = let e : suc k + n ≡ k + suc n = omega arith in ap (λ l.
 
 pub upTo-suc : (n : ℕ) → upTo (suc n) ≡ upTo n ++ (n ∷ [])
 upTo-suc n = let e : 0 + n ≡ n = omega arith in from-last 0 n ∙ ap (λ x. upTo n ++ (x ∷ [])) e
-
-pub upTo-next : (n : ℕ) → upTo (n + 1) ≡ upTo n ++ (n ∷ [])
-upTo-next n = ap upTo (add-one n) ∙ upTo-suc n
 
 -- ---- one number more
 
@@ -41,23 +38,8 @@ module _ (f : ℕ → ℕ) (n : ℕ) where
   sum-next = ap (λ m. sum f (upTo m)) (add-one n) ∙ sum-suc
 
 module _ (f : ℕ → Bool) (n : ℕ) where
-  pub count-suc : count f (upTo (suc n)) ≡ count f (upTo n) + bit (f n)
-  count-suc = sum-suc (λ x. bit (f x)) n
-
   pub count-next : count f (upTo (n + 1)) ≡ count f (upTo n) + bit (f n)
   count-next = sum-next (λ x. bit (f x)) n
-
-  pub every-suc : every f (upTo (suc n)) ≡ (every f (upTo n) && f n)
-  every-suc = ap (every f) (upTo-suc n) ∙ every-append f (upTo n) (n ∷ []) ∙ ap (λ b. every f (upTo n) && b) (and-true (f n))
-
-  pub every-next : every f (upTo (n + 1)) ≡ (every f (upTo n) && f n)
-  every-next = ap (λ m. every f (upTo m)) (add-one n) ∙ every-suc
-
-  pub any-suc : any f (upTo (suc n)) ≡ (any f (upTo n) || f n)
-  any-suc = ap (any f) (upTo-suc n) ∙ any-append f (upTo n) (n ∷ []) ∙ ap (λ b. any f (upTo n) || b) (or-false (f n))
-
-  pub any-next : any f (upTo (n + 1)) ≡ (any f (upTo n) || f n)
-  any-next = ap (λ m. any f (upTo m)) (add-one n) ∙ any-suc
 
   pub keep-suc : keep f (upTo (suc n)) ≡ keep f (upTo n) ++ pick (f n) (n ∷ []) []
   keep-suc = ap (keep f) (upTo-suc n) ∙ keep-append f (upTo n) (n ∷ [])
@@ -157,9 +139,6 @@ module _ (f : ℕ → Bool) (n : ℕ) where
   pub each-every : ((i : ℕ) → i < n → f i ≡ true) → every f (upTo n) ≡ true
   each-every h = true-every f (upTo n) (all-upTo (λ i. f i ≡ true) n h)
 
-  pub any-none : any f (upTo n) ≡ false → (i : ℕ) → i < n → f i ≡ false
-  any-none e = upTo-all (λ i. f i ≡ false) n (any-false f (upTo n) e)
-
   pub none-any : ((i : ℕ) → i < n → f i ≡ false) → any f (upTo n) ≡ false
   none-any h = false-any f (upTo n) (all-upTo (λ i. f i ≡ false) n h)
 
@@ -195,12 +174,6 @@ one-passes f n i j h a b p q =
 -- ---- the first number below n that passes
 
 module _ (f : ℕ → Bool) (d : ℕ) where
-  pub find-suc : (n : ℕ) → find f d (upTo (suc n)) ≡ pick (any f (upTo n)) (find f d (upTo n)) (pick (f n) n d)
-  find-suc n = ap (find f d) (upTo-suc n) ∙ find-append f d (upTo n) (n ∷ [])
-
-  pub find-next : (n : ℕ) → find f d (upTo (n + 1)) ≡ pick (any f (upTo n)) (find f d (upTo n)) (pick (f n) n d)
-  find-next n = ap (λ m. find f d (upTo m)) (add-one n) ∙ find-suc n
-
   -- if one passes, what is found does, and is below n
   pub find-found : (n : ℕ) → any f (upTo n) ≡ true → (find f d (upTo n) < n) × (f (find f d (upTo n)) ≡ true)
   find-found n e = (all-found (λ i. i < n) f d (upTo n) (all-upTo (λ i. i < n) n (λ i h. h)) e, find-passes f d (upTo n) e)

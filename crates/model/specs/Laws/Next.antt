@@ -1,14 +1,12 @@
 -- What make leaves is valid, and every call keeps a valid model valid.
 -- Assumes nothing.
-use mathlib.Core.Path.{_≡_, refl, ap, _∙_}
+use mathlib.Core.Path.{_≡_, refl}
 use mathlib.Core.List.{List, [], _∷_}
-use Prim.Native.Nat.{ℕ, zero, suc, _+_}
+use Prim.Native.Nat.{ℕ, zero, suc}
 use native.Mathlib.Omega.{arith}
-use Rattle.lists.specs.Laws.Finds.{all-found}
 use Rattle.model.specs.Model.{Model, Call, declare, newRegion, subregion, push, dropFrame, handBack, allocate, first, copy, fetch, clear, load, setPointer, put, get, view, same, about, report, totals, audit, delete}
-use Rattle.model.specs.Model.{called, region, noRegion}
 use Rattle.model.specs.Calls.{refusal, accepted, next, nextBy, after, fresh}
-use Rattle.model.specs.Valid.{Valid, ValidParent, levelOf}
+use Rattle.model.specs.Valid.{Valid}
 use Rattle.model.specs.Laws.Slots.{push-valid, pop-valid, hand-valid, clear-valid, copy-valid, fetch-valid, load-valid, first-valid, set-valid, put-valid}
 use Rattle.model.specs.Laws.Grows.{declare-valid, new-valid, sub-valid, allocate-valid}
 use Rattle.model.specs.Laws.Deletes.{delete-valid}
@@ -59,7 +57,3 @@ fresh-valid n = record {
   objects = tt;
   frames = record { mark = omega arith; many = omega arith; sized = tt; slots = tt };
 }
-
--- region 1 is at level 1
-pub one-level : (L : Model) → Valid L → (region (L .regions) 1) .level ≡ 1
-one-level L v = (all-found (ValidParent (L .regions)) (called 1) noRegion (L .regions) (v .parents) (v .names .one)) .level ∙ ap (λ p. levelOf (L .regions) p + 1) (v .names .root)

@@ -1,17 +1,16 @@
--- Refused or accepted: what a call answers and leaves in each case, and that an accepted one passed each of its tests.
+-- An accepted call passed each of its tests.
 -- Assumes nothing.
-use mathlib.Core.Path.{_≡_, refl, ap}
+use mathlib.Core.Path.{_≡_, refl}
 use mathlib.Core.Bool.{Bool, true, false}
 use mathlib.Core.List.{List, [], _∷_}
-use Prim.Native.Nat.{ℕ, suc, _<_}
+use Prim.Native.Nat.{ℕ, _<_}
 use native.Mathlib.Omega.{arith}
 use lib.Dec.{ltb}
 use borrow.Author.Tests.{ltb-true}
 use Rattle.lists.specs.Lists.{pick, every, All}
 use Rattle.lists.specs.Laws.Tests.{both}
 use Rattle.model.specs.Model.{Model, Call, declare, newRegion, subregion, push, dropFrame, handBack, allocate, first, copy, fetch, clear, load, setPointer, put, get, view, same, about, report, totals, audit, delete}
-use Rattle.model.specs.Model.{refusedBy}
-use Rattle.model.specs.Calls.{checks, refusal, reason, reply, accepted, answer, answerBy, next, nextBy}
+use Rattle.model.specs.Calls.{checks, refusal, reason}
 
 abbrev pub positive : Bool × ℕ → Bool
 positive t = ltb 0 (t .1)
@@ -56,20 +55,3 @@ numbers L (delete r) = refl
 pub passed : (L : Model) (c : Call) → refusal L c ≡ 0 → All (λ t. t .0 ≡ false) (checks L c)
 unfolding refusal
 passed L c e = all-passed (checks L c) (numbers L c) e
-
-module _ (L : Model) (c : Call) where
-  pub next-accepted : refusal L c ≡ 0 → next L c ≡ accepted L c
-  unfolding next
-  next-accepted e = ap (λ n. nextBy n L c) e
-
-  pub answer-accepted : refusal L c ≡ 0 → answer L c ≡ reply L c
-  unfolding answer
-  answer-accepted e = ap (λ n. answerBy n L c) e
-
-  pub next-refused : (n : ℕ) → refusal L c ≡ suc n → next L c ≡ L
-  unfolding next
-  next-refused n e = ap (λ n. nextBy n L c) e
-
-  pub answer-refused : (n : ℕ) → refusal L c ≡ suc n → answer L c ≡ refusedBy (suc n)
-  unfolding answer
-  answer-refused n e = ap (λ n. answerBy n L c) e

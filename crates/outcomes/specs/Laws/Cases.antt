@@ -1,19 +1,18 @@
 -- What calls refuse and leave, computed on the memory `small` of Examples, where an edit of the calls that must be refused would refuse or leave something else: most cases name it.
 -- Assumes nothing.
 use mathlib.Core.Path.{_≡_, refl}
-use mathlib.Core.Bool.{Bool, true}
+use mathlib.Core.Bool.{true}
 use mathlib.Core.List.{List, [], _∷_}
-use Prim.Native.Nat.{ℕ, _-_}
+use Prim.Native.Nat.{ℕ}
 use lib.Dec.{eqb}
-use lib.ListN.{length, take, drop}
 use Rattle.lists.specs.Lists.{bit, every}
-use Rattle.model.specs.Model.{push, fetch, load, put, get, view}
+use Rattle.model.specs.Model.{push, fetch, load, put, view}
 use Rattle.frames.specs.Frames.{frameCount, topFrame, widthAt, slotAt, putSlot, pushed, uncounts, popped}
 use Rattle.kinds.specs.Kinds.{kindCount, sizeOf, markAt, allData as onlyData}
 use Rattle.regions.specs.Regions.{nameAt, nameOf, entryOf, parentAt, oldestAt, countAt, moved, rolled, withCounts}
 use Rattle.pages.specs.Pages.{pageCount, ownerAt, ownerIn, ownerOf, pagesOf, wrongLength}
 use Rattle.objects.specs.Objects.{kindOf, wordCount, markOf, wordAt}
-use Rattle.outcomes.specs.Store.{Store, frames, kinds, regions, pages, slot, slotTargets, breaks}
+use Rattle.outcomes.specs.Store.{Store, frames, regions, pages, slot, slotTargets, breaks}
 use Rattle.outcomes.specs.Outcome.{withFrames, badLength, noFrame, oneFrame, lacks, lacksBeneath, noWord, isData, allData, checks, refusal, fillSlot, writeWord, recounted, countedIn, popFrame, pointed}
 use Rattle.outcomes.specs.Examples.{small}
 

@@ -1,20 +1,19 @@
 -- Every outcome is a value of the language's types.
 -- Assumes nothing.
-use mathlib.Core.Path.{_≡_, refl, sym, ap, subst, subst⁻¹, _∙_}
+use mathlib.Core.Path.{_≡_, refl, sym, subst⁻¹}
 use mathlib.Core.Logic.{_⊎_, inl, inr}
-use mathlib.Core.Bool.{Bool, true, false, not, _&&_, _||_, true≢false}
+use mathlib.Core.Bool.{Bool, true, false, not, _||_, true≢false}
 use mathlib.Core.List.{List, [], _∷_}
 use Prim.Native.Nat.{ℕ, zero, suc, _+_, _-_, _*_, _≤_, _<_, min}
 use native.Mathlib.Omega.{arith}
 use lib.Dec.{eqb, ltb, leb}
-use lib.ListN.{length, getD, set, replicate}
-use lib.Seq.{sets}
-use borrow.Author.Tests.{eqb-true, eqb-false, ltb-true, ltb-false, leb-true, leb-false}
+use lib.ListN.{length, replicate}
+use borrow.Author.Tests.{eqb-true, ltb-true, ltb-false, leb-false}
 use Rattle.lists.specs.Lists.{bit, pick, any, All}
 use Rattle.lists.specs.Laws.Tests.{neither, both}
 use Rattle.lists.specs.Laws.All.{all-map, all-set, all-replicate}
 use Rattle.lists.specs.Laws.Finds.{any-false}
-use Rattle.model.specs.Model.{Answer, Call, declare, newRegion, subregion, push, dropFrame, handBack, allocate, first, copy, fetch, clear, load, setPointer, put, get, view, same, about, report, totals, audit, delete, gives, refusedBy}
+use Rattle.model.specs.Model.{Answer, Call, declare, newRegion, subregion, push, dropFrame, handBack, allocate, first, copy, fetch, clear, load, setPointer, put, get, view, same, about, report, totals, audit, delete, gives}
 use Rattle.frames.specs.Frames.{topFrame}
 use Rattle.kinds.specs.Kinds.{kindCount, sizeOf, wrongMarks}
 use Rattle.regions.specs.declared.Regions.{Regions}
@@ -23,7 +22,7 @@ use Rattle.pages.specs.Pages.{pageCount, isFree, takenAt}
 use Rattle.outcomes.specs.Store.{Store, frames, kinds, regions, pages, slot, size, roomy}
 use Rattle.outcomes.specs.Sound.{Sound}
 use Rattle.outcomes.specs.Shape.{RegionsShaped, Shaped}
-use Rattle.outcomes.specs.Outcome.{Outcome, Accepted, Answered, Audited, Chosen, refusal, checks, dead, namesOut, fillSlot, writeWord, recounted, pointed, popFrame, allocated, deleted, withFrames, withKinds, withRegions, withPages, withHeap}
+use Rattle.outcomes.specs.Outcome.{Outcome, Accepted, Answered, Audited, Chosen, refusal, checks, dead, namesOut, fillSlot, writeWord, recounted, pointed, popFrame, allocated, deleted}
 use Rattle.outcomes.specs.Promises.{KeepsShape}
 use Rattle.outcomes.specs.Laws.Decided.{sound-or-not}
 use Rattle.outcomes.specs.Laws.Passed.{passed}

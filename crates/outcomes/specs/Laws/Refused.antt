@@ -3,20 +3,19 @@
 use mathlib.Core.Path.{_≡_, refl, sym, ap, _∙_}
 use mathlib.Core.Logic.{_⊎_, inl, inr, _↔_, _≢_}
 use mathlib.Core.Bool.{Bool, true, false, not, _&&_, _||_, true≢false}
-use mathlib.Core.List.{List, [], _∷_}
-use Prim.Native.Nat.{ℕ, zero, suc, _+_, _-_, _<_}
+use mathlib.Core.List.{[], _∷_}
+use Prim.Native.Nat.{ℕ, zero, suc, _+_, _-_}
 use native.Mathlib.Omega.{arith}
-use lib.Dec.{eqb, ltb, leb}
+use lib.Dec.{eqb}
 use lib.ListN.{getD}
 use borrow.Author.Tests.{eq-eqb, eqb-false, lt-ltb}
-use Rattle.lists.specs.Lists.{bit, pick, any, count, find, upTo}
-use Rattle.lists.specs.Laws.Tests.{neither}
+use Rattle.lists.specs.Lists.{pick, any, count, find, upTo}
 use Rattle.lists.specs.Laws.Finds.{any-count}
 use Rattle.lists.specs.Laws.UpTo.{find-found}
 use Rattle.model.specs.Model.{Answer, Call, declare, newRegion, subregion, push, dropFrame, handBack, allocate, first, copy, fetch, clear, load, setPointer, put, get, view, same, about, report, totals, audit, delete, gives, refusedBy}
 use Rattle.regions.specs.Regions.{newestAt, entryOf}
 use Rattle.pages.specs.declared.Pages.{Pages}
-use Rattle.pages.specs.Pages.{pageCount, ownerAt, takenAt, isFree, pagesOf}
+use Rattle.pages.specs.Pages.{pageCount, ownerAt, isFree, pagesOf}
 use Rattle.outcomes.specs.Store.{Store, regions, pages, roomy, size}
 use Rattle.outcomes.specs.Sound.{Sound}
 use Rattle.outcomes.specs.Outcome.{Outcome, Accepted, Answered, Audited, Chosen, checks, refusal}

@@ -1,14 +1,13 @@
 -- What a call gives fits 32 bits.
 -- Assumes nothing.
-use mathlib.Core.Path.{_≡_, refl, sym, ap, subst, _∙_}
 use mathlib.Core.Bool.{Bool, true, false, not, _&&_, _||_}
-use mathlib.Core.List.{List, [], _∷_, map}
+use mathlib.Core.List.{List, [], _∷_}
 use Prim.Native.Nat.{ℕ, zero, suc, _+_, _-_, _*_, _≤_, _<_, min}
 use native.Mathlib.Nat.{suc-mul}
 use native.Mathlib.Omega.{arith}
 use lib.Dec.{eqb, ltb, leb}
 use lib.ListN.{length, getD, length-map, length-append}
-use Rattle.lists.specs.Lists.{pick, sum, count, keep, joined, All, from, upTo}
+use Rattle.lists.specs.Lists.{pick, sum, count, joined, from, upTo}
 use Rattle.lists.specs.Laws.Sums.{count-most, length-keep}
 use Rattle.lists.specs.Laws.UpTo.{length-upTo}
 use Rattle.lists.specs.Laws.All.{all-at}
@@ -20,8 +19,8 @@ use Rattle.regions.specs.Regions.{nameAt, nameOf, parentAt, liveCount, subregio
 use Rattle.pages.specs.declared.Pages.{Pages}
 use Rattle.pages.specs.Pages.{pageCount, ownerAt, takenAt, ownerOf, pagesOf}
 use Rattle.objects.specs.Objects.{kindOf, wordAt, walk, headersTo, headersOn, freeWords, freeWordsOn}
-use Rattle.outcomes.specs.Store.{Store, frames, kinds, regions, pages, slotsInto, wordsInto, outsideOf}
-use Rattle.outcomes.specs.Shape.{FramesShaped, RegionsShaped, Shaped}
+use Rattle.outcomes.specs.Store.{Store, frames, kinds, pages, slotsInto, wordsInto, outsideOf}
+use Rattle.outcomes.specs.Shape.{RegionsShaped, Shaped}
 use Rattle.outcomes.specs.Laws.Shaped.{array-at, pick-below}
 
 -- a sum of n numbers, none above b

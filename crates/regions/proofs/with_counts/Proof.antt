@@ -1,4 +1,3 @@
-use borrow.Author.Needs.{needs}
 use mathlib.Core.Path.{refl}
 use Rattle.regions.specs.Regions.{withCounts}
 use Rattle.regions.proofs.with_counts.Statement.{statement}

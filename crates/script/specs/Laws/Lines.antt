@@ -1,19 +1,19 @@
 -- Laws of the table of names and of the arguments, one by one.
 -- Assumes nothing.
-use mathlib.Core.Path.{_≡_, refl, sym, ap, ap₂, _∙_}
-use mathlib.Core.Bool.{Bool, true, false, _&&_, and-false, false≢true}
+use mathlib.Core.Path.{_≡_, refl, sym, ap, _∙_}
+use mathlib.Core.Bool.{Bool, true, false, _&&_, and-false}
 use mathlib.Core.Logic.{inl}
 use mathlib.Core.List.{List, [], _∷_, map}
 use Prim.Native.Nat.{ℕ, suc, _+_, _≤_, _<_}
 use native.Mathlib.Numerals.{add-one}
 use native.Mathlib.Omega.{arith}
 use lib.Dec.{eqb, leb}
-use lib.ListN.{length, getD, set, take, drop}
-use lib.Seq.{sets, sets-eq, take-append-seam}
+use lib.ListN.{length, getD, set}
+use lib.Seq.{sets}
 use borrow.Author.Tests.{eqb-true, eq-eqb, le-leb, lt-leb, lt-ltb, le-ltb}
 use Rattle.lists.specs.Lists.{pick, every, equal}
 use Rattle.lists.specs.Laws.Every.{equal-is, equal-self}
-use Rattle.lists.specs.Laws.Tests.{both, by-test, pick-same}
+use Rattle.lists.specs.Laws.Tests.{by-test, pick-same}
 use Rattle.lists.specs.Laws.Sets.{getD-sets-out}
 use Rattle.script.specs.declared.Line.{Line}
 use Rattle.script.specs.Script.{value, none, known, placed, callOf, allowed, line, zeros, bad, given, said}
@@ -67,11 +67,6 @@ module _ (n k : ℕ) (args : List ℕ) where
   given-full vs h = rw (lt-leb (k + length vs) 64 (omega arith), and-false (every known vs))
 
 -- ---- the whole line
-
--- the arguments are read back from their places
-pub args-are : (vs : List ℕ) → length vs ≤ 64 → take (length vs) (sets zeros 0 vs) ≡ vs
-unfolding zeros
-args-are vs h = rw (sets-eq vs zeros 0 (omega arith)) (take-append-seam vs (drop (0 + length vs) zeros))
 
 first-is : (vs : List ℕ) → getD (sets zeros 0 vs) 0 0 ≡ getD vs 0 0
 unfolding zeros
