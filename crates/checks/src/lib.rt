@@ -161,11 +161,11 @@ pub fn leave_frame(f: Frames, owners: &[u8], counts: [u32; 64], i: u32) -> [u32;
 {
     let n = frames::width_at(f, i);
     let mut c = counts;
-    let mut k: u32 = 0;
-    while k < n {
-        let d = regions::leave(c, pages::owner_of(owners, frames::slot_at(f, i, k)));
+    let mut s: u32 = 0;
+    while s < n {
+        let d = regions::leave(c, pages::owner_of(owners, frames::slot_at(f, i, s)));
         c = d;
-        k += 1;
+        s += 1;
     }
     c
 }

@@ -65,6 +65,17 @@ page0 = 1 ∷ 65 ∷ 9 ∷ 3 ∷ 7 ∷ 8 ∷ replicate 58 99
 abbrev hp : List ℕ
 hp = page0 ++ (1 ∷ 1 ∷ 42 ∷ 2 ∷ 65 ∷ 4 ∷ 1 ∷ replicate 57 99)
 
+-- counts, newest pages or oldest objects of regions that have none
+abbrev none : List ℕ
+none = 0 ∷ 77 ∷ 0 ∷ replicate 61 77
+
+-- 17 regions by name or by level, and by the regions above, each right below the one before
+abbrev chain : List ℕ
+chain = 1 ∷ 2 ∷ 3 ∷ 4 ∷ 5 ∷ 6 ∷ 7 ∷ 8 ∷ 9 ∷ 10 ∷ 11 ∷ 12 ∷ 13 ∷ 14 ∷ 15 ∷ 16 ∷ 17 ∷ replicate 47 0
+
+abbrev above : List ℕ
+above = 0 ∷ 1 ∷ 2 ∷ 3 ∷ 4 ∷ 5 ∷ 6 ∷ 7 ∷ 8 ∷ 9 ∷ 10 ∷ 11 ∷ 12 ∷ 13 ∷ 14 ∷ 15 ∷ 16 ∷ replicate 47 0
+
 abbrev pub small : Store
 small = mem 2 1 ws sl 3 sz mk 7 nm pa lv ct nw ol 2 ow tk hp
 
@@ -86,6 +97,8 @@ examples =
     ∷ example (mem 2 1 ws sl 3 sz mk 7 nm pa lv (set ct 2 3) nw ol 2 ow tk hp) (0 ∷ [])
     -- a slot that leads to no header
     ∷ example (mem 2 1 ws (set sl 8 67) 3 sz mk 7 nm pa lv ct nw ol 2 ow tk hp) (1 ∷ [])
+    -- a slot that leads to a header on a free page
+    ∷ example (mem 2 1 ws (set sl 8 129) 3 sz mk 7 nm pa lv ct nw ol 3 (set ow 2 0) (set tk 2 3) (hp ++ (1 ∷ 0 ∷ 0 ∷ replicate 61 99))) (1 ∷ [])
     -- a word marked 2 that leads nowhere
     ∷ example (mem 2 1 ws sl 3 sz mk 7 nm pa lv ct nw ol 2 ow tk (set hp 68 66)) (2 ∷ [])
     -- a word marked 2 that leads to another region
@@ -96,16 +109,18 @@ examples =
     ∷ example (mem 2 1 ws sl 3 sz mk 7 nm pa lv ct nw ol 2 ow tk (set hp 70 65)) (2 ∷ [])
     -- a page entered as neither: its entry is not in use. Its objects are then not live
     ∷ example (mem 2 1 ws sl 3 sz mk 7 nm pa lv ct nw ol 2 (set ow 1 2) tk hp) (0 ∷ 1 ∷ 2 ∷ 3 ∷ 19 ∷ 20 ∷ [])
+    -- a third page, entered as neither
+    ∷ example (mem 2 1 ws sl 3 sz mk 7 nm pa lv ct nw ol 3 (set ow 2 2) (set tk 2 0) (hp ++ replicate 64 99)) (3 ∷ [])
     -- no page made
-    ∷ example (mem 2 1 ws sl 3 sz mk 7 nm pa lv ct nw ol 0 ow tk hp) (0 ∷ 1 ∷ 4 ∷ 13 ∷ 19 ∷ 20 ∷ [])
-    -- 17 kinds
-    ∷ example (mem 2 1 ws sl 17 sz mk 7 nm pa lv ct nw ol 2 ow tk hp) (5 ∷ 6 ∷ 7 ∷ [])
+    ∷ example (mem 0 0 ws sl 3 sz mk 7 nm pa lv none none none 0 ow tk []) (4 ∷ [])
+    -- 17 kinds: the last has no size
+    ∷ example (mem 2 1 ws sl 17 (2 ∷ 3 ∷ 2 ∷ replicate 13 1) (1 ∷ 0 ∷ replicate 14 77 ++ (2 ∷ 3 ∷ 4 ∷ replicate 237 0)) 7 nm pa lv ct nw ol 2 ow tk hp) (5 ∷ 6 ∷ [])
     -- a kind with no word
     ∷ example (mem 2 1 ws sl 4 (set sz 3 0) mk 7 nm pa lv ct nw ol 2 ow tk hp) (6 ∷ [])
     -- a mark above 4
     ∷ example (mem 2 1 ws sl 4 (set sz 3 1) (set mk 48 5) 7 nm pa lv ct nw ol 2 ow tk hp) (7 ∷ [])
     -- 33 frames
-    ∷ example (mem 33 1 (2 ∷ replicate 32 1) (1 ∷ 65 ∷ replicate 6 0 ++ (68 ∷ replicate 247 0)) 3 sz mk 7 nm pa lv ct nw ol 2 ow tk hp) (8 ∷ [])
+    ∷ example (mem 33 1 (2 ∷ replicate 31 1) (1 ∷ 65 ∷ replicate 6 0 ++ (68 ∷ replicate 247 0)) 3 sz mk 7 nm pa lv ct nw ol 2 ow tk hp) (8 ∷ [])
     -- a frame of 9 slots
     ∷ example (mem 2 1 (set ws 1 9) (1 ∷ 65 ∷ replicate 6 0 ++ (68 ∷ replicate 247 0)) 3 sz mk 7 nm pa lv ct nw ol 2 ow tk hp) (9 ∷ [])
     -- a frame of no slot
@@ -117,27 +132,31 @@ examples =
     -- a heap that lacks its last word
     ∷ example (mem 2 1 ws sl 3 sz mk 7 nm pa lv ct nw ol 2 ow tk (page0 ++ (1 ∷ 1 ∷ 42 ∷ 2 ∷ 65 ∷ 4 ∷ 1 ∷ replicate 56 99))) (13 ∷ [])
     -- two entries with one name
-    ∷ example (mem 2 1 ws sl 3 sz mk 7 (set nm 3 5) (set pa 3 1) (set lv 3 2) ct (set nw 3 0) (set ol 3 0) 2 ow tk hp) (14 ∷ [])
+    ∷ example (mem 2 1 ws sl 3 sz mk 7 (set nm 3 5) (set pa 3 1) (set lv 3 2) (set ct 3 0) (set nw 3 0) (set ol 3 0) 2 ow tk hp) (14 ∷ [])
     -- a name that was not given
     ∷ example (mem 2 1 ws sl 3 sz mk 4 nm pa lv ct nw ol 2 ow tk hp) (15 ∷ [])
-    -- region 1 under another name: the word marked 4 breaks its rule too
-    ∷ example (mem 2 1 ws sl 3 sz mk 7 (set nm 0 2) pa lv ct nw ol 2 ow tk hp) (2 ∷ 16 ∷ [])
-    -- a region above that is not in use: the word marked 3 breaks its rule too
-    ∷ example (mem 2 1 ws sl 3 sz mk 7 nm (set pa 2 2) lv ct nw ol 2 ow tk hp) (2 ∷ 17 ∷ [])
+    -- a name that was not given, in the last entry
+    ∷ example (mem 2 1 ws sl 3 sz mk 7 (set nm 63 8) (set pa 63 0) (set lv 63 1) (set ct 63 0) (set nw 63 0) (set ol 63 0) 2 ow tk hp) (15 ∷ [])
+    -- region 1 under another name, the word marked 4 null
+    ∷ example (mem 2 1 ws sl 3 sz mk 7 (set nm 0 2) pa lv ct nw ol 2 ow tk (set hp 70 0)) (16 ∷ [])
+    -- a region above that is not in use, the word marked 3 null
+    ∷ example (mem 2 1 ws sl 3 sz mk 7 nm (set pa 2 2) (set lv 1 1) ct nw ol 2 ow tk (set hp 69 0)) (17 ∷ [])
     -- a level two more than the one above
     ∷ example (mem 2 1 ws sl 3 sz mk 7 nm pa (set lv 2 3) ct nw ol 2 ow tk hp) (17 ∷ [])
-    -- level 17
-    ∷ example (mem 2 1 ws sl 3 sz mk 7 nm pa (set lv 2 17) ct nw ol 2 ow tk hp) (10 ∷ 17 ∷ [])
-    -- a region with none above at level 2
-    ∷ example (mem 2 1 ws sl 3 sz mk 7 nm (set pa 2 0) lv ct nw ol 2 ow tk hp) (2 ∷ 17 ∷ [])
-    -- region 1 below region 5
-    ∷ example (mem 2 1 ws sl 3 sz mk 7 nm (set pa 0 3) (3 ∷ 77 ∷ 2 ∷ replicate 61 77) ct nw ol 2 ow tk hp) (17 ∷ [])
+    -- 17 regions, each below the one before: level 17
+    ∷ example (mem 0 0 ws sl 3 sz mk 17 chain above chain (replicate 64 0) (replicate 64 0) (replicate 64 0) 1 (replicate 256 0) tk (replicate 64 99)) (10 ∷ [])
+    -- a region with none above at level 2, the word marked 3 null
+    ∷ example (mem 2 1 ws sl 3 sz mk 7 nm (set pa 2 0) lv ct nw ol 2 ow tk (set hp 69 0)) (17 ∷ [])
+    -- region 1 below region 5, the word marked 3 null
+    ∷ example (mem 2 1 ws sl 3 sz mk 7 nm (3 ∷ 77 ∷ 0 ∷ replicate 61 77) (2 ∷ 77 ∷ 1 ∷ replicate 61 77) ct nw ol 2 ow tk (set hp 69 0)) (17 ∷ [])
     -- a page taken one word further than its objects reach
     ∷ example (mem 2 1 ws sl 3 sz mk 7 nm pa lv ct nw ol 2 ow (set tk 0 7) hp) (18 ∷ [])
     -- an object that goes past what is taken: it is not met
     ∷ example (mem 2 1 ws (set sl 8 65) 3 sz mk 7 nm pa lv ct nw ol 2 ow (set tk 1 6) hp) (18 ∷ [])
     -- a newest page of another region
     ∷ example (mem 2 1 ws sl 3 sz mk 7 nm pa lv ct (set nw 2 1) ol 2 ow tk hp) (19 ∷ [])
+    -- a newest page past those made
+    ∷ example (mem 2 1 ws sl 3 sz mk 7 nm pa lv ct (set nw 2 3) ol 2 (set ow 2 3) tk hp) (19 ∷ [])
     -- an oldest object of another region
     ∷ example (mem 2 1 ws sl 3 sz mk 7 nm pa lv ct nw (set ol 2 1) 2 ow tk hp) (20 ∷ [])
     -- an oldest object that is none

@@ -16,6 +16,10 @@ Inv-loop k heap p f i n s₀ s = (n ≡ widthAt f i) × Passed (λ s. known k he
 abbrev μ-loop : tie.MeasureT-loop
 μ-loop k heap p f i n s₀ s = n - s
 
+-- none is passed at first
+loop-holds : tie.Need-loop-holds Inv-loop μ-loop
+loop-holds c = (c .width-at .ensures, passed-none _ _)
+
 returns : tie.Need-returns Inv-loop μ-loop
 unfolding frameLeads
 returns c =
@@ -39,7 +43,7 @@ frame-leads-spec =
     Inv-loop
     μ-loop
     (λ c κs. search needs)
-    (λ c. (c .width-at .ensures, passed-none _ _))
+    loop-holds
     (λ c κs. search needs)
     (λ c κs. search needs)
     returns

@@ -41,12 +41,12 @@ returns c =
 
 returns-2 : tie.Need-returns-2 Inv-loop μ-loop
 unfolding headersTo
-returns-2 c = let l = c .before .before .before .before in sym (rw (eq-eqb _ _ (c .if2 .taken)) at (next (c .before) .1)) ∙ l .loop .inv .2
+returns-2 c = let l = c .before .before .before .before in sym (rw (eq-eqb (l .loop .at) (l .before .before .args .q) (omega arith)) at (next (c .before) .1)) ∙ l .loop .inv .2
 
 loop-again : tie.Need-loop-again Inv-loop μ-loop
 loop-again c =
     let l = c .before .before .before .before in
-    (omega arith, next (c .before) .0, sym (rw (ne-eqb _ _ (c .if2 .left)) at (next (c .before) .1)) ∙ l .loop .inv .2)
+    (omega arith, next (c .before) .0, sym (rw (ne-eqb (l .loop .at) (l .before .before .args .q) (λ e. omega arith)) at (next (c .before) .1)) ∙ l .loop .inv .2)
 
 returns-3 : tie.Need-returns-3 Inv-loop μ-loop
 unfolding headersTo

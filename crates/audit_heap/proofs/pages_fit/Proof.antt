@@ -16,6 +16,10 @@ Inv-loop k heap g p n j₀ j = (n ≡ pageCount p) × Passed (pageFits k heap g 
 abbrev μ-loop : tie.MeasureT-loop
 μ-loop k heap g p n j₀ j = n - j
 
+-- none is passed at first
+loop-holds : tie.Need-loop-holds Inv-loop μ-loop
+loop-holds c = (c .page-count .ensures, passed-none _ _)
+
 returns : tie.Need-returns Inv-loop μ-loop
 unfolding pagesFit
 returns c =
@@ -39,7 +43,7 @@ pages-fit-spec =
     Inv-loop
     μ-loop
     (λ c κs. search needs)
-    (λ c. (c .page-count .ensures, passed-none _ _))
+    loop-holds
     (λ c κs. search needs)
     returns
     (λ c. search needs)

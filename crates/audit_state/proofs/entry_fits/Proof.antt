@@ -1,3 +1,4 @@
+use native.Mathlib.Omega.{arith}
 use borrow.Author.Needs.{needs}
 use borrow.Author.Tests.{eq-eqb, ne-eqb}
 use Rattle.audit_state.specs.Fits.{entryFits}
@@ -6,11 +7,11 @@ use Rattle.audit_state.proofs.entry_fits.Tie as tie
 
 returns : tie.Need-returns
 unfolding entryFits
-returns c = rw (← c .before .name-at .ensures) (simp (eq-eqb _ _ (c .if1 .taken)))
+returns c = rw (← c .before .name-at .ensures) (simp (eq-eqb (c .before .name-at .result) 0 (omega arith)))
 
 returns-2 : tie.Need-returns-2
 unfolding entryFits
-returns-2 c = rw (← c .before .before .name-at .ensures, ← c .region-fits .ensures) (simp (ne-eqb _ _ (c .before .if1 .left)))
+returns-2 c = rw (← c .before .before .name-at .ensures, ← c .region-fits .ensures) (simp (ne-eqb (c .before .before .name-at .result) 0 (λ e. omega arith)))
 
 pub entry-fits-spec : {M : Type 1} → statement M
 entry-fits-spec = tie.close (tie.spec (λ c κs. search needs) returns (λ c κs. search needs) returns-2)

@@ -1,10 +1,11 @@
-use mathlib.Core.Path.{_≡_}
+use mathlib.Core.Path.{_≡_, sym}
 use Prim.Native.Nat.{_-_, _≤_}
 use native.Mathlib.Omega.{arith}
 use borrow.Author.Needs.{needs}
 use borrow.Author.Tests.{not-true, not-false}
 use Rattle.lists.specs.Laws.Every.{Passed, passed-none, passed-more, passed-not, passed-all}
 use Rattle.kinds.specs.Kinds.{kindCount}
+use Rattle.outcomes.specs.Sound.{within}
 use Rattle.audit_state.specs.Fits.{kindFits, kindsFit}
 use Rattle.audit_state.proofs.kinds_fit.Statement.{statement}
 use Rattle.audit_state.proofs.kinds_fit.Tie as tie
@@ -20,13 +21,17 @@ loop-holds : tie.Need-loop-holds Inv-loop μ-loop
 unfolding kindCount
 loop-holds c = (c .kind-count .ensures, omega (arith, c .kind-count .ensures), passed-none _ _)
 
+-- the test of one size
+fits : (c : tie.After-within Inv-loop μ-loop) → within 1 16 (c .before .byte .result) ≡ c .within .result
+fits c = sym (c .within .ensures)
+
 returns : tie.Need-returns Inv-loop μ-loop
 unfolding kindFits kindsFit
 returns c =
     let b = c .before .before in
     let l = b .before .before .before .before .before in
     let k = l .before .before .args .t1 in
-    passed-not (kindFits k) (kindCount k) (l .loop .i) (omega arith) (rw (← b .byte .ensures, ← c .before .within .ensures, not-true (c .before .within .result) (c .if1 .taken)))
+    passed-not (kindFits k) (kindCount k) (l .loop .i) (omega arith) (rw (← b .byte .ensures, fits (c .before), not-true (c .before .within .result) (c .if1 .taken)))
 
 returns-2 : tie.Need-returns-2 Inv-loop μ-loop
 unfolding kindFits kindsFit
@@ -36,7 +41,7 @@ returns-2 c =
     let l = b .before .before .before .before .before in
     let k = l .before .before .args .t1 in
     passed-not (kindFits k) (kindCount k) (l .loop .i) (omega arith)
-    (rw (← b .byte .ensures, ← w .before .within .ensures, not-false (w .before .within .result) (w .if1 .left), ← c .before .marks-fit .ensures) (not-true (c .before .marks-fit .result) (c .if2 .taken)))
+    (rw (← b .byte .ensures, fits (w .before), not-false (w .before .within .result) (w .if1 .left), ← c .before .marks-fit .ensures) (not-true (c .before .marks-fit .result) (c .if2 .taken)))
 
 loop-again : tie.Need-loop-again Inv-loop μ-loop
 unfolding kindFits
@@ -47,7 +52,7 @@ loop-again c =
       l .loop .inv .0,
       l .loop .inv .1,
       passed-more (kindFits (l .before .before .args .t1)) _ (l .loop .i) (l .loop .inv .2) (omega arith)
-          (rw (← b .byte .ensures, ← w .before .within .ensures, not-false (w .before .within .result) (w .if1 .left), ← c .before .marks-fit .ensures) (not-false (c .before .marks-fit .result) (c .if2 .left))),
+          (rw (← b .byte .ensures, fits (w .before), not-false (w .before .within .result) (w .if1 .left), ← c .before .marks-fit .ensures) (not-false (c .before .marks-fit .result) (c .if2 .left))),
     )
 
 returns-3 : tie.Need-returns-3 Inv-loop μ-loop

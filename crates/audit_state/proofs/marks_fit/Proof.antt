@@ -22,12 +22,12 @@ unfolding marksFit
 returns c =
     let l = c .before .before .before in
     let a = l .before .before .args in
-    passed-not _ (sizeOf (a .k) (a .n)) (l .loop .w) (omega arith) (rw (← c .before .mark-at .ensures) (lt-leb _ _ (c .if1 .taken)))
+    passed-not _ (sizeOf (a .k) (a .n)) (l .loop .w) (omega arith) (rw (← c .before .mark-at .ensures) (lt-leb (c .before .mark-at .result) 4 (omega arith)))
 
 loop-again : tie.Need-loop-again Inv-loop μ-loop
 loop-again c =
     let l = c .before .before .before in
-    (l .loop .inv .0, passed-more _ _ (l .loop .w) (l .loop .inv .1) (omega arith) (rw (← c .before .mark-at .ensures) (le-leb _ _ (c .if1 .left))))
+    (l .loop .inv .0, passed-more _ _ (l .loop .w) (l .loop .inv .1) (omega arith) (rw (← c .before .mark-at .ensures) (le-leb (c .before .mark-at .result) 4 (omega arith))))
 
 returns-2 : tie.Need-returns-2 Inv-loop μ-loop
 unfolding marksFit

@@ -1,33 +1,56 @@
+use mathlib.Core.Path.{_≡_, sym, _∙_}
+use mathlib.Core.Bool.{true}
+use Prim.Native.Nat.{_*_, _≤_}
+use native.Mathlib.Omega.{arith}
 use borrow.Author.Needs.{needs}
 use borrow.Author.Tests.{eq-eqb, ne-eqb, le-leb, lt-leb, not-true, not-false}
+use Rattle.frames.specs.Frames.{topFrame}
+use Rattle.outcomes.specs.Sound.{within}
 use Rattle.audit_state.specs.Fits.{numbersFit}
 use Rattle.audit_state.proofs.numbers_fit.Statement.{statement}
 use Rattle.audit_state.proofs.numbers_fit.Tie as tie
 
+-- the test of the pages made; what holds behind each test
+test : (c : tie.After-within) → within 1 256 (c .before .before .before .before .before .args .s .pages .made) ≡ c .within .result
+test c = sym (c .within .ensures)
+
+made : (c : tie.Else1) → within 1 256 (c .before .before .before .before .before .before .args .s .pages .made) ≡ true
+made c = test (c .before) ∙ not-false (c .before .within .result) (c .if1 .left)
+
+long : (c : tie.Else2) → let a = c .before .before .before .before .before .before .before .before .args in a .n ≡ 64 * a .s .pages .made
+long c = omega arith
+
+declared : (c : tie.Else3) → c .before .before .before .before .before .before .before .before .before .before .args .s .kinds .declared ≤ 16
+declared c = omega arith
+
+standing : (c : tie.Else4) → c .before .before .before .before .before .before .before .before .before .before .before .before .args .s .frames .standing ≤ 32
+standing c = omega arith
+
+counted : (c : tie.Else5) → let f = c .before .before .before .before .before .before .before .before .before .before .before .before .before .before .before .args .s .frames in f .counted ≤ topFrame f
+counted c = omega (arith, c .before .before .top .ensures)
+
 returns : tie.Need-returns
 unfolding numbersFit
-returns c = rw (← c .before .within .ensures) (simp (not-true (c .before .within .result) (c .if1 .taken)))
+returns c = rw (test (c .before)) (simp (not-true (c .before .within .result) (c .if1 .taken)))
 
 returns-2 : tie.Need-returns-2
 unfolding numbersFit
 returns-2 c =
-    let w = c .before .before in
-    rw (← w .before .within .ensures) (simp (not-false (w .before .within .result) (w .if1 .left), ne-eqb _ _ (c .if2 .taken)))
+    let a = c .before .before .before .before .before .before .before .before .args in
+    rw (made (c .before .before)) (simp (ne-eqb (a .n) (64 * a .s .pages .made) (λ e. omega arith)))
 
 returns-3 : tie.Need-returns-3
 unfolding numbersFit
 returns-3 c =
     let n = c .before .before in
-    let w = n .before .before in
-    rw (← w .before .within .ensures) (simp (not-false (w .before .within .result) (w .if1 .left), eq-eqb _ _ (n .if2 .left), lt-leb _ _ (c .if3 .taken)))
+    rw (made (n .before .before), eq-eqb _ _ (long n)) (simp (lt-leb (c .before .before .before .before .before .before .before .before .before .before .args .s .kinds .declared) 16 (omega arith)))
 
 returns-4 : tie.Need-returns-4
 unfolding numbersFit
 returns-4 c =
     let k = c .before .before in
     let n = k .before .before in
-    let w = n .before .before in
-    rw (← w .before .within .ensures) (simp (not-false (w .before .within .result) (w .if1 .left), eq-eqb _ _ (n .if2 .left), le-leb _ _ (k .if3 .left), lt-leb _ _ (c .if4 .taken)))
+    rw (made (n .before .before), eq-eqb _ _ (long n), le-leb _ _ (declared k)) (simp (lt-leb (c .before .before .before .before .before .before .before .before .before .before .before .before .args .s .frames .standing) 32 (omega arith)))
 
 returns-5 : tie.Need-returns-5
 unfolding numbersFit
@@ -35,9 +58,8 @@ returns-5 c =
     let f = c .before .before .before in
     let k = f .before .before in
     let n = k .before .before in
-    let w = n .before .before in
-    rw (← w .before .within .ensures, ← c .before .before .top .ensures)
-    (simp (not-false (w .before .within .result) (w .if1 .left), eq-eqb _ _ (n .if2 .left), le-leb _ _ (k .if3 .left), le-leb _ _ (f .if4 .left), lt-leb _ _ (c .if5 .taken)))
+    let s = c .before .before .before .before .before .before .before .before .before .before .before .before .before .before .before .args .s .frames in
+    rw (made (n .before .before), eq-eqb _ _ (long n), le-leb _ _ (declared k), le-leb _ _ (standing f)) (simp (lt-leb (s .counted) (topFrame s) (omega (arith, c .before .before .top .ensures))))
 
 returns-6 : tie.Need-returns-6
 unfolding numbersFit
@@ -46,9 +68,7 @@ returns-6 c =
     let f = m .before .before .before in
     let k = f .before .before in
     let n = k .before .before in
-    let w = n .before .before in
-    rw (← w .before .within .ensures, ← m .before .before .top .ensures)
-    (simp (not-false (w .before .within .result) (w .if1 .left), eq-eqb _ _ (n .if2 .left), le-leb _ _ (k .if3 .left), le-leb _ _ (f .if4 .left), le-leb _ _ (m .if5 .left)))
+    rw (made (n .before .before), eq-eqb _ _ (long n), le-leb _ _ (declared k), le-leb _ _ (standing f), le-leb _ _ (counted m))
 
 pub numbers-fit-spec : {M : Type 1} → statement M
 numbers-fit-spec = tie.close (tie.spec (λ c κs. search needs) returns (λ c. search needs) (λ c. search needs) returns-2 returns-3 returns-4 (λ c κs. search needs) returns-5 returns-6)

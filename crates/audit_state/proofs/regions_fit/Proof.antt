@@ -1,4 +1,4 @@
-use Prim.Native.Nat.{_-_}
+use Prim.Native.Nat.{_-_, _<_}
 use native.Mathlib.Omega.{arith}
 use borrow.Author.Needs.{needs}
 use borrow.Author.Tests.{not-true, not-false, lt-ltb, le-ltb}
@@ -15,15 +15,19 @@ Inv-loop g i₀ i = Passed (entryFits g) 64 i
 abbrev μ-loop : tie.MeasureT-loop
 μ-loop g i₀ i = 64 - i
 
+-- region 1 has an entry
+lives : (c : tie.Else1 Inv-loop μ-loop) → c .before .entry-of .result < 64
+lives c = omega arith
+
 returns : tie.Need-returns Inv-loop μ-loop
 unfolding regionsFit isLive
-returns c = rw (← c .before .entry-of .ensures) (simp (le-ltb _ _ (c .if1 .taken)))
+returns c = rw (← c .before .entry-of .ensures) (simp (le-ltb (c .before .entry-of .result) 64 (omega arith)))
 
 returns-2 : tie.Need-returns-2 Inv-loop μ-loop
 unfolding regionsFit isLive
 returns-2 c =
     let l = c .before .before .before in
-    rw (← l .before .before .entry-of .ensures, lt-ltb _ _ (l .before .if1 .left))
+    rw (← l .before .before .entry-of .ensures, lt-ltb _ _ (lives (l .before)))
     (passed-not (entryFits (l .before .before .before .args .g)) 64 (l .loop .i) (omega arith) (rw (← c .before .entry-fits .ensures) (not-true (c .before .entry-fits .result) (c .if2 .taken))))
 
 loop-again : tie.Need-loop-again Inv-loop μ-loop
@@ -35,7 +39,7 @@ returns-3 : tie.Need-returns-3 Inv-loop μ-loop
 unfolding regionsFit isLive
 returns-3 c =
     let l = c .before in
-    rw (← l .before .before .entry-of .ensures, lt-ltb _ _ (l .before .if1 .left)) (passed-all (entryFits (l .before .before .before .args .g)) 64 (l .loop .i) (l .loop .inv) (omega arith))
+    rw (← l .before .before .entry-of .ensures, lt-ltb _ _ (lives (l .before))) (passed-all (entryFits (l .before .before .before .args .g)) 64 (l .loop .i) (l .loop .inv) (omega arith))
 
 pub regions-fit-spec : {M : Type 1} → statement M
 regions-fit-spec =

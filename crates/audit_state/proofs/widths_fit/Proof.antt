@@ -1,10 +1,11 @@
-use mathlib.Core.Path.{_≡_}
+use mathlib.Core.Path.{_≡_, sym}
 use Prim.Native.Nat.{_-_}
 use native.Mathlib.Omega.{arith}
 use borrow.Author.Needs.{needs}
 use borrow.Author.Tests.{not-true, not-false}
 use Rattle.lists.specs.Laws.Every.{Passed, passed-none, passed-more, passed-not, passed-all}
 use Rattle.frames.specs.Frames.{frameCount, widthAt}
+use Rattle.outcomes.specs.Sound.{within}
 use Rattle.outcomes.specs.Sound.{within}
 use Rattle.audit_state.specs.Fits.{widthsFit}
 use Rattle.audit_state.proofs.widths_fit.Statement.{statement}
@@ -17,17 +18,21 @@ Inv-loop f n i₀ i = (n ≡ frameCount f) × Passed (λ i. within 1 8 (widthAt 
 abbrev μ-loop : tie.MeasureT-loop
 μ-loop f n i₀ i = n - i
 
+-- the test of one frame
+fits : (c : tie.After-within Inv-loop μ-loop) → within 1 8 (c .before .width-at .result) ≡ c .within .result
+fits c = sym (c .within .ensures)
+
 returns : tie.Need-returns Inv-loop μ-loop
 unfolding widthsFit
 returns c =
     let l = c .before .before .before .before in
     let a = l .before .before .args in
-    passed-not _ (frameCount (a .f)) (l .loop .i) (omega arith) (rw (← c .before .before .width-at .ensures, ← c .before .within .ensures) (not-true (c .before .within .result) (c .if1 .taken)))
+    passed-not _ (frameCount (a .f)) (l .loop .i) (omega arith) (rw (← c .before .before .width-at .ensures, fits (c .before)) (not-true (c .before .within .result) (c .if1 .taken)))
 
 loop-again : tie.Need-loop-again Inv-loop μ-loop
 loop-again c =
     let l = c .before .before .before .before in
-    (l .loop .inv .0, passed-more _ _ (l .loop .i) (l .loop .inv .1) (omega arith) (rw (← c .before .before .width-at .ensures, ← c .before .within .ensures) (not-false (c .before .within .result) (c .if1 .left))))
+    (l .loop .inv .0, passed-more _ _ (l .loop .i) (l .loop .inv .1) (omega arith) (rw (← c .before .before .width-at .ensures, fits (c .before)) (not-false (c .before .within .result) (c .if1 .left))))
 
 returns-2 : tie.Need-returns-2 Inv-loop μ-loop
 unfolding widthsFit

@@ -1,8 +1,10 @@
 use mathlib.Core.Path.{_≡_, sym, ap, _∙_}
 use mathlib.Core.Bool.{true, false}
 use mathlib.Core.List.{List}
+use mathlib.Core.Logic.{_≢_}
 use Prim.Native.Nat.{ℕ, _-_}
 use lib.Dec.{eqb}
+use native.Mathlib.Omega.{arith}
 use borrow.Author.Needs.{needs}
 use borrow.Author.Tests.{eq-eqb, ne-eqb, not-true, not-false}
 use Rattle.model.specs.Model.{rule}
@@ -22,19 +24,26 @@ by-rule : (k : Kinds) (heap : List ℕ) (g : Regions) (p : Pages) (own above m x
 unfolding wordHolds
 by-rule k heap g p own above m x a b c = rw (a, b, c)
 
+-- the word is no data; the test of the place that it leads to
+pointer : (c : tie.Else1) → c .before .before .args .m ≢ 0
+pointer c e = omega arith
+
+stands : (c : tie.After-stands-at) → let a = c .before .before .before .before .args in standsAt (a .k) (a .heap .now) (a .t4) (a .x - 1) ≡ c .stands-at .result
+stands c = sym (c .stands-at .ensures)
+
 returns : tie.Need-returns
 unfolding wordHolds
-returns c = simp (eq-eqb _ _ (c .if1 .taken))
+returns c = simp (eq-eqb (c .before .before .args .m) 0 (omega arith))
 
 returns-2 : tie.Need-returns-2
 unfolding wordHolds
-returns-2 c = simp (ne-eqb _ _ (c .before .if1 .left), eq-eqb _ _ (c .if2 .taken))
+returns-2 c = simp (ne-eqb _ _ (pointer (c .before)), eq-eqb _ _ (c .if2 .taken))
 
 returns-3 : tie.Need-returns-3
 unfolding wordHolds
 returns-3 c =
     let x = c .before .before in
-    rw (← c .before .stands-at .ensures) (simp (ne-eqb _ _ (x .before .if1 .left), ne-eqb _ _ (x .if2 .left), not-true (c .before .stands-at .result) (c .if3 .taken)))
+    rw (stands (c .before)) (simp (ne-eqb _ _ (pointer (x .before)), ne-eqb _ _ (x .if2 .left), not-true (c .before .stands-at .result) (c .if3 .taken)))
 
 returns-4 : tie.Need-returns-4
 unfolding ownerOf
@@ -45,7 +54,7 @@ returns-4 c =
     let a = x .before .before .before .args in
     c .allows .ensures
     ∙ ap (λ n. rule (a .m) n (a .own) (a .above)) (c .before .name-of .ensures ∙ ap (nameOf (a .g)) (o .owner-of .ensures))
-    ∙ by-rule (a .k) (a .heap .now) (a .g) (a .t4) (a .own) (a .above) (a .m) (a .x) (ne-eqb _ _ (x .before .if1 .left)) (ne-eqb _ _ (x .if2 .left)) (sym (t .before .stands-at .ensures) ∙ not-false (t .before .stands-at .result) (t .if3 .left))
+    ∙ by-rule (a .k) (a .heap .now) (a .g) (a .t4) (a .own) (a .above) (a .m) (a .x) (ne-eqb _ _ (pointer (x .before))) (ne-eqb _ _ (x .if2 .left)) (stands (t .before) ∙ not-false (t .before .stands-at .result) (t .if3 .left))
 
 pub word-holds-spec : {M : Type 1} → statement M
 word-holds-spec = tie.close (tie.spec returns returns-2 (λ c. search needs) (λ c κs. search needs) returns-3 (λ c κs. search needs) (λ c κs. search needs) (λ c κs. search needs) returns-4)

@@ -16,6 +16,10 @@ Inv-loop k heap g p own above kind words n w₀ w = Passed (λ j. wordHolds k he
 abbrev μ-loop : tie.MeasureT-loop
 μ-loop k heap g p own above kind words n w₀ w = n - w
 
+-- none is passed at first
+loop-holds : tie.Need-loop-holds Inv-loop μ-loop
+loop-holds c = passed-none _ _
+
 returns : tie.Need-returns Inv-loop μ-loop
 unfolding wordsHold
 returns c =
@@ -41,7 +45,7 @@ words-hold-spec =
     (tie.spec
     Inv-loop
     μ-loop
-    (λ c. passed-none _ _)
+    loop-holds
     (λ c κs. search needs)
     (λ c. search needs)
     (λ c κs. search needs)

@@ -1,3 +1,4 @@
+use native.Mathlib.Omega.{arith}
 use borrow.Author.Needs.{needs}
 use borrow.Author.Tests.{eq-eqb, ne-eqb}
 use Rattle.calls_audit.specs.Passes.{isZero}
@@ -6,13 +7,13 @@ use Rattle.calls_audit.proofs.is_zero.Tie as tie
 
 returns : tie.Need-returns
 unfolding isZero
-returns c = rw (← c .before .name-at .ensures) (simp (eq-eqb _ _ (c .if1 .taken)))
+returns c = rw (← c .before .name-at .ensures) (simp (eq-eqb (c .before .name-at .result) 0 (omega arith)))
 
 returns-2 : tie.Need-returns-2
 unfolding isZero
 returns-2 c =
     let n = c .before .before in
-    rw (← n .before .name-at .ensures, ← c .word .ensures) (simp (ne-eqb _ _ (n .if1 .left)))
+    rw (← n .before .name-at .ensures, ← c .word .ensures) (simp (ne-eqb (n .before .name-at .result) 0 (λ e. omega arith)))
 
 pub is-zero-spec : {M : Type 1} → statement M
 is-zero-spec = tie.close (tie.spec (λ c κs. search needs) returns (λ c. search needs) (λ c κs. search needs) returns-2)

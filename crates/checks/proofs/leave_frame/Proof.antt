@@ -12,10 +12,10 @@ use Rattle.checks.proofs.leave_frame.Statement.{statement}
 use Rattle.checks.proofs.leave_frame.Tie as tie
 
 abbrev Inv-loop : tie.InvT-loop
-Inv-loop f owners i n c₀ k₀ c k = (n ≡ widthAt f i) × (k ≤ n) × (c ≡ moved c₀ [] (tagsTo f owners i k))
+Inv-loop f owners i n c₀ s₀ c s = (n ≡ widthAt f i) × (s ≤ n) × (c ≡ moved c₀ [] (tagsTo f owners i s))
 
 abbrev μ-loop : tie.MeasureT-loop
-μ-loop f owners i n c₀ k₀ c k = n - k
+μ-loop f owners i n c₀ s₀ c s = n - s
 
 loop-holds : tie.Need-loop-holds Inv-loop μ-loop
 loop-holds c = let cs = c .before .before .args .counts in (c .width-at .ensures, search needs, sym (moved-none cs (fits-counts cs (search needs) (λ i. search needs))))
@@ -26,7 +26,7 @@ loop-again c =
     let a = l .before .before .before .args in (
       l .loop .inv .0,
       omega arith,
-      c .leave .ensures ∙ rw (l .loop .inv .2, c .before .owner-of .ensures, c .before .before .slot-at .ensures) (leave-next (a .f) (a .owners .now) (a .i) (a .counts) (l .loop .k)),
+      c .leave .ensures ∙ rw (l .loop .inv .2, c .before .owner-of .ensures, c .before .before .slot-at .ensures) (leave-next (a .f) (a .owners .now) (a .i) (a .counts) (l .loop .s)),
     )
 
 returns : tie.Need-returns Inv-loop μ-loop
@@ -34,7 +34,7 @@ unfolding slotTags
 returns c =
     let l = c .before in
     let a = l .before .before .before .args in
-    let e : widthAt (a .f) (a .i) ≡ l .loop .k = omega arith in
+    let e : widthAt (a .f) (a .i) ≡ l .loop .s = omega arith in
     rw e (l .loop .inv .2)
 
 pub leave-frame-spec : {M : Type 1} → statement M
