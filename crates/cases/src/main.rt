@@ -1,499 +1,189 @@
 // Document 01's cases on the store: for each, make and then calls, with a line for those that the case is about.
+// A line begins with the call's number.
 use state::Done;
-use state::Reply;
 use state::State;
 
-// A call made n times, each on what the one before left; the last one's reply.
-fn times(
-    s: State,
-    heap: &mut [u32],
-    n: u32,
-    number: u32,
-    a: u32,
-    b: u32,
-    c: u32,
-    marks: &[u32],
-) -> Done {
-    let mut d = Done {
-        state: s,
-        reply: Reply {
-            refusal: 0,
-            a: 0,
-            b: 0,
-            c: 0,
-            d: 0,
-        },
-    };
-    let mut i: u32 = 0;
+// The calls' numbers in document 01.
+const MAKE: u32 = 1;
+
+const DECLARE: u32 = 2;
+
+const NEW_REGION: u32 = 3;
+
+const SUBREGION: u32 = 4;
+
+const PUSH: u32 = 5;
+
+const DROP: u32 = 6;
+
+const ALLOCATE: u32 = 8;
+
+const CLEAR: u32 = 12;
+
+const SET_POINTER: u32 = 14;
+
+const REPORT: u32 = 20;
+
+const TOTALS: u32 = 21;
+
+const AUDIT: u32 = 22;
+
+const DELETE: u32 = 23;
+
+// A call made n times, and once for 0, each time on what the one before left; the last one's reply.
+fn times(s: State, heap: &mut [u32], n: u32, number: u32, a: u32, b: u32, c: u32) -> Done {
+    let none = [0u32; 0];
+    let mut d = store::call(s, heap, number, a, b, c, &none);
+    let mut i: u32 = 1;
     while i < n {
-        let t = d.state;
-        let e = store::call(t, heap, number, a, b, c, marks);
-        d = e;
         i += 1;
+        let t = d.state;
+        let e = store::call(t, heap, number, a, b, c, &none);
+        d = e;
     }
     d
 }
 
-// One row: how often, the call's number, three arguments, and 1 if the last reply is printed.
-fn row(s: State, heap: &mut [u32], rows: &[u32], at: usize, marks: &[u32]) -> State {
-    let r = cells::part(rows, at, 6);
-    let d = times(
-        s,
-        heap,
-        cells::word(r, 0),
-        cells::word(r, 1),
-        cells::word(r, 2),
-        cells::word(r, 3),
-        cells::word(r, 4),
-        marks,
-    );
-    if cells::word(r, 5) == 1 {
-        lines::line(cells::word(r, 1), d.reply);
-    }
+// A call, with no line.
+fn does(s: State, heap: &mut [u32], number: u32, a: u32, b: u32, c: u32) -> State {
+    let d = times(s, heap, 1, number, a, b, c);
     d.state
 }
 
-// A case: make, and then its rows, at most 20; what is past them does nothing. A line begins with the call's number.
-fn run(heap: &mut [u32], rows: &[u32], marks: &[u32]) {
+// A call made n times, with a line for the last.
+fn shows(s: State, heap: &mut [u32], n: u32, number: u32, a: u32, b: u32, c: u32) -> State {
+    let d = times(s, heap, n, number, a, b, c);
+    lines::line(number, d.reply);
+    d.state
+}
+
+// Make, with its line.
+fn made(heap: &mut [u32]) -> State {
     let d = store::make(heap);
-    lines::line(1, d.reply);
-    let mut s = d.state;
-    let mut i: u32 = 0;
-    while i < 20 {
-        let t = row(s, heap, rows, 6 * (i as usize), marks);
-        s = t;
-        i += 1;
+    lines::line(MAKE, d.reply);
+    d.state
+}
+
+// Make, with its line, and a kind.
+fn with_kind(heap: &mut [u32], marks: &[u32]) -> State {
+    let s = made(heap);
+    let d = store::declare(s, heap, marks);
+    d.state
+}
+
+// Make with the first n words of a heap.
+fn makes(heap: &mut [u32], n: usize) {
+    if n <= heap.len() {
+        made(&mut heap[0..n]);
     }
 }
 
-// A heap of 0 words: 1.
-fn no_words() {
+// Make, and a kind with these marks, with its line.
+fn declares(marks: &[u32]) {
     let mut heap = [0u32; 64];
-    let none = [0u32; 0];
-    run(&mut heap[0..0], &none, &none);
+    let s = made(&mut heap);
+    let d = store::declare(s, &heap, marks);
+    lines::line(DECLARE, d.reply);
 }
 
-// 64 words: accepted.
-fn one_page() {
-    let mut heap = [0u32; 64];
-    let none = [0u32; 0];
-    run(&mut heap, &none, &none);
-}
-
-// 16,384 words: accepted.
-fn all_pages() {
-    let mut heap = [0u32; 16384];
-    let none = [0u32; 0];
-    run(&mut heap, &none, &none);
-}
-
-// 16,448 words: 1.
-fn too_many() {
-    let mut heap = [0u32; 16448];
-    let none = [0u32; 0];
-    run(&mut heap, &none, &none);
-}
-
-// 17 marks: 11. 16 marks: accepted.
-fn marks() {
-    let mut heap = [0u32; 64];
-    let rows = [1u32, 2, 0, 0, 0, 1];
-    run(&mut heap, &rows, &[0u32; 17]);
-    run(&mut heap, &rows, &[0u32; 16]);
-}
-
-// Kinds of 15 and of 16 words: four and three fit a page, the next one takes another (totals shows the free pages).
-fn packing() {
+// So many objects of a kind fit a page, and the next takes another (totals shows the free pages).
+fn packing(marks: &[u32], fit: u32) {
     let mut heap = [0u32; 192];
-    let four = [
-        1u32,
-        2,
-        0,
-        0,
-        0,
-        0,
-        1,
-        5,
-        1,
-        0,
-        0,
-        0,
-        4,
-        8,
-        0,
-        1,
-        1,
-        1,
-        1,
-        21,
-        0,
-        0,
-        0,
-        1,
-        1,
-        8,
-        0,
-        1,
-        1,
-        1,
-        1,
-        21,
-        0,
-        0,
-        0,
-        1,
-    ];
-    run(&mut heap, &four, &[0u32; 15]);
-    let three = [
-        1u32,
-        2,
-        0,
-        0,
-        0,
-        0,
-        1,
-        5,
-        1,
-        0,
-        0,
-        0,
-        3,
-        8,
-        0,
-        1,
-        1,
-        1,
-        1,
-        21,
-        0,
-        0,
-        0,
-        1,
-        1,
-        8,
-        0,
-        1,
-        1,
-        1,
-        1,
-        21,
-        0,
-        0,
-        0,
-        1,
-    ];
-    run(&mut heap, &three, &[0u32; 16]);
+    let s = with_kind(&mut heap, marks);
+    let s = does(s, &mut heap, PUSH, 1, 0, 0);
+    let s = shows(s, &mut heap, fit, ALLOCATE, 0, 1, 1);
+    let s = shows(s, &mut heap, 1, TOTALS, 0, 0, 0);
+    let s = shows(s, &mut heap, 1, ALLOCATE, 0, 1, 1);
+    shows(s, &mut heap, 1, TOTALS, 0, 0, 0);
 }
 
 // One page, full: 13; after deleting the region that held it, accepted.
 fn full() {
     let mut heap = [0u32; 64];
-    let rows = [
-        1u32,
-        2,
-        0,
-        0,
-        0,
-        0,
-        1,
-        5,
-        1,
-        0,
-        0,
-        0,
-        1,
-        3,
-        0,
-        0,
-        0,
-        0,
-        4,
-        8,
-        0,
-        2,
-        1,
-        1,
-        1,
-        8,
-        0,
-        2,
-        1,
-        1,
-        1,
-        12,
-        0,
-        0,
-        0,
-        0,
-        1,
-        23,
-        2,
-        0,
-        0,
-        1,
-        1,
-        3,
-        0,
-        0,
-        0,
-        0,
-        1,
-        8,
-        0,
-        3,
-        1,
-        1,
-    ];
-    run(&mut heap, &rows, &[0u32; 15]);
+    let s = with_kind(&mut heap, &[0u32; 15]);
+    let s = does(s, &mut heap, PUSH, 1, 0, 0);
+    let s = does(s, &mut heap, NEW_REGION, 0, 0, 0);
+    let s = shows(s, &mut heap, 4, ALLOCATE, 0, 2, 1);
+    let s = shows(s, &mut heap, 1, ALLOCATE, 0, 2, 1);
+    let s = does(s, &mut heap, CLEAR, 0, 0, 0);
+    let s = shows(s, &mut heap, 1, DELETE, 2, 0, 0);
+    let s = does(s, &mut heap, NEW_REGION, 0, 0, 0);
+    shows(s, &mut heap, 1, ALLOCATE, 0, 3, 1);
 }
 
 // An object's free word set to itself: the count stays.
 fn itself() {
     let mut heap = [0u32; 64];
-    let rows = [
-        1u32,
-        2,
-        0,
-        0,
-        0,
-        0,
-        1,
-        5,
-        1,
-        0,
-        0,
-        0,
-        1,
-        3,
-        0,
-        0,
-        0,
-        0,
-        1,
-        8,
-        0,
-        2,
-        1,
-        0,
-        1,
-        20,
-        2,
-        0,
-        0,
-        1,
-        1,
-        14,
-        0,
-        0,
-        0,
-        1,
-        1,
-        20,
-        2,
-        0,
-        0,
-        1,
-    ];
-    run(&mut heap, &rows, &[1u32]);
+    let s = with_kind(&mut heap, &[1u32]);
+    let s = does(s, &mut heap, PUSH, 1, 0, 0);
+    let s = does(s, &mut heap, NEW_REGION, 0, 0, 0);
+    let s = does(s, &mut heap, ALLOCATE, 0, 2, 1);
+    let s = shows(s, &mut heap, 1, REPORT, 2, 0, 0);
+    let s = shows(s, &mut heap, 1, SET_POINTER, 0, 0, 0);
+    shows(s, &mut heap, 1, REPORT, 2, 0, 0);
 }
 
 // A word marked 3 set to the region above: that region's count stays.
 fn above() {
     let mut heap = [0u32; 128];
-    let rows = [
-        1u32,
-        2,
-        0,
-        0,
-        0,
-        0,
-        1,
-        5,
-        2,
-        0,
-        0,
-        0,
-        1,
-        4,
-        1,
-        0,
-        0,
-        1,
-        1,
-        8,
-        0,
-        1,
-        1,
-        0,
-        1,
-        8,
-        1,
-        2,
-        1,
-        0,
-        1,
-        20,
-        1,
-        0,
-        0,
-        1,
-        1,
-        14,
-        1,
-        0,
-        0,
-        1,
-        1,
-        20,
-        1,
-        0,
-        0,
-        1,
-    ];
-    run(&mut heap, &rows, &[3u32]);
+    let s = with_kind(&mut heap, &[3u32]);
+    let s = does(s, &mut heap, PUSH, 2, 0, 0);
+    let s = shows(s, &mut heap, 1, SUBREGION, 1, 0, 0);
+    let s = does(s, &mut heap, ALLOCATE, 0, 1, 1);
+    let s = does(s, &mut heap, ALLOCATE, 1, 2, 1);
+    let s = shows(s, &mut heap, 1, REPORT, 1, 0, 0);
+    let s = shows(s, &mut heap, 1, SET_POINTER, 1, 0, 0);
+    shows(s, &mut heap, 1, REPORT, 1, 0, 0);
 }
 
 // Push 9: 8. The 33rd frame: 7. The 64th live region: accepted; the 65th: 4.
 fn limits() {
     let mut heap = [0u32; 64];
-    let none = [0u32; 0];
-    let rows = [
-        1u32,
-        5,
-        9,
-        0,
-        0,
-        1,
-        32,
-        5,
-        1,
-        0,
-        0,
-        1,
-        1,
-        5,
-        1,
-        0,
-        0,
-        1,
-        63,
-        3,
-        0,
-        0,
-        0,
-        1,
-        1,
-        3,
-        0,
-        0,
-        0,
-        1,
-    ];
-    run(&mut heap, &rows, &none);
+    let s = made(&mut heap);
+    let s = shows(s, &mut heap, 1, PUSH, 9, 0, 0);
+    let s = shows(s, &mut heap, 32, PUSH, 1, 0, 0);
+    let s = shows(s, &mut heap, 1, PUSH, 1, 0, 0);
+    let s = shows(s, &mut heap, 63, NEW_REGION, 0, 0, 0);
+    shows(s, &mut heap, 1, NEW_REGION, 0, 0, 0);
 }
 
 // Delete with a subregion and an outside pointer: 18.
 fn both() {
     let mut heap = [0u32; 64];
-    let rows = [
-        1u32,
-        2,
-        0,
-        0,
-        0,
-        0,
-        1,
-        5,
-        1,
-        0,
-        0,
-        0,
-        1,
-        3,
-        0,
-        0,
-        0,
-        0,
-        1,
-        4,
-        2,
-        0,
-        0,
-        1,
-        1,
-        8,
-        0,
-        2,
-        1,
-        1,
-        1,
-        23,
-        2,
-        0,
-        0,
-        1,
-    ];
-    run(&mut heap, &rows, &[0u32]);
+    let s = with_kind(&mut heap, &[0u32]);
+    let s = does(s, &mut heap, PUSH, 1, 0, 0);
+    let s = does(s, &mut heap, NEW_REGION, 0, 0, 0);
+    let s = shows(s, &mut heap, 1, SUBREGION, 2, 0, 0);
+    let s = shows(s, &mut heap, 1, ALLOCATE, 0, 2, 1);
+    shows(s, &mut heap, 1, DELETE, 2, 0, 0);
 }
 
 // Three frames, accepted delete: m is 2; drop: m is 1 (the last value of totals). Audit, asked last, gives 1.
 fn mark() {
     let mut heap = [0u32; 64];
-    let none = [0u32; 0];
-    let rows = [
-        3u32,
-        5,
-        1,
-        0,
-        0,
-        1,
-        1,
-        3,
-        0,
-        0,
-        0,
-        0,
-        1,
-        23,
-        2,
-        0,
-        0,
-        1,
-        1,
-        21,
-        0,
-        0,
-        0,
-        1,
-        1,
-        6,
-        0,
-        0,
-        0,
-        1,
-        1,
-        21,
-        0,
-        0,
-        0,
-        1,
-        1,
-        22,
-        0,
-        0,
-        0,
-        1,
-    ];
-    run(&mut heap, &rows, &none);
+    let s = made(&mut heap);
+    let s = shows(s, &mut heap, 3, PUSH, 1, 0, 0);
+    let s = does(s, &mut heap, NEW_REGION, 0, 0, 0);
+    let s = shows(s, &mut heap, 1, DELETE, 2, 0, 0);
+    let s = shows(s, &mut heap, 1, TOTALS, 0, 0, 0);
+    let s = shows(s, &mut heap, 1, DROP, 0, 0, 0);
+    let s = shows(s, &mut heap, 1, TOTALS, 0, 0, 0);
+    shows(s, &mut heap, 1, AUDIT, 0, 0, 0);
 }
 
 fn main() {
-    no_words();
-    one_page();
-    all_pages();
-    too_many();
-    marks();
-    packing();
+    // A heap of 0 words: 1. 64: accepted. 16,384: accepted. 16,448: 1.
+    let mut heap = [0u32; 16448];
+    makes(&mut heap, 0);
+    makes(&mut heap, 64);
+    makes(&mut heap, 16384);
+    makes(&mut heap, 16448);
+    // 17 marks: 11. 16 marks: accepted.
+    declares(&[0u32; 17]);
+    declares(&[0u32; 16]);
+    // Kinds of 15 and of 16 words: four and three to a page.
+    packing(&[0u32; 15], 4);
+    packing(&[0u32; 16], 3);
     full();
     itself();
     above();
