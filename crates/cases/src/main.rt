@@ -97,7 +97,18 @@ fn packing(marks: &[u32], fit: u32) {
     shows(s, &mut heap, 1, TOTALS, 0, 0, 0);
 }
 
-// One page, full: 13; after deleting the region that held it, accepted.
+// Three objects of 16 words, and one of the kind with these marks (totals shows whether it took another page).
+fn remaining(marks: &[u32]) {
+    let mut heap = [0u32; 192];
+    let s = with_kind(&mut heap, &[0u32; 16]);
+    let d = store::declare(s, &heap, marks);
+    let s = does(d.state, &mut heap, PUSH, 1, 0, 0);
+    let s = shows(s, &mut heap, 3, ALLOCATE, 0, 1, 1);
+    let s = shows(s, &mut heap, 1, ALLOCATE, 0, 1, 2);
+    shows(s, &mut heap, 1, TOTALS, 0, 0, 0);
+}
+
+// A page that is full gives 13; once the region that held it is deleted, it is there again.
 fn full() {
     let mut heap = [0u32; 64];
     let s = with_kind(&mut heap, &[0u32; 15]);
@@ -111,7 +122,7 @@ fn full() {
     shows(s, &mut heap, 1, ALLOCATE, 0, 3, 1);
 }
 
-// An object's free word set to itself: the count stays.
+// An object's free word that leads to the object: the count stays.
 fn itself() {
     let mut heap = [0u32; 64];
     let s = with_kind(&mut heap, &[1u32]);
@@ -123,7 +134,7 @@ fn itself() {
     shows(s, &mut heap, 1, REPORT, 2, 0, 0);
 }
 
-// A word marked 3 set to the region above: that region's count stays.
+// A word marked 3 that leads into the region above: the count there stays.
 fn above() {
     let mut heap = [0u32; 128];
     let s = with_kind(&mut heap, &[3u32]);
@@ -147,7 +158,7 @@ fn limits() {
     shows(s, &mut heap, 1, NEW_REGION, 0, 0, 0);
 }
 
-// Delete with a subregion and an outside pointer: 18.
+// A subregion and an outside pointer at once: delete gives 18.
 fn both() {
     let mut heap = [0u32; 64];
     let s = with_kind(&mut heap, &[0u32]);
@@ -158,7 +169,7 @@ fn both() {
     shows(s, &mut heap, 1, DELETE, 2, 0, 0);
 }
 
-// Three frames, accepted delete: m is 2; drop: m is 1 (the last value of totals). Audit, asked last, gives 1.
+// Delete with three frames makes m 2, and a drop then makes it 1 (the last value of totals). Audit, asked last, gives 1.
 fn mark() {
     let mut heap = [0u32; 64];
     let s = made(&mut heap);
@@ -184,6 +195,9 @@ fn main() {
     // Kinds of 15 and of 16 words: four and three to a page.
     packing(&[0u32; 15], 4);
     packing(&[0u32; 16], 3);
+    // Three of 16 leave 13 words: header and words of a kind of 12 fit, those of a kind of 13 do not.
+    remaining(&[0u32; 12]);
+    remaining(&[0u32; 13]);
     full();
     itself();
     above();
