@@ -5,7 +5,7 @@ use mathlib.Core.Bool.{true}
 use mathlib.Core.List.{List, [], _∷_}
 use Prim.Native.Nat.{ℕ}
 use lib.Dec.{eqb}
-use Rattle.lists.specs.Lists.{bit, every}
+use Rattle.lists.specs.Lists.{bit, every, equal}
 use Rattle.model.specs.Model.{push, fetch, load, put, view}
 use Rattle.frames.specs.Frames.{frameCount, topFrame, widthAt, slotAt, putSlot, pushed, uncounts, popped}
 use Rattle.kinds.specs.Kinds.{kindCount, sizeOf, markAt, allData as onlyData}
@@ -13,7 +13,7 @@ use Rattle.regions.specs.Regions.{nameAt, nameOf, entryOf, parentAt, oldestAt, 
 use Rattle.pages.specs.Pages.{pageCount, ownerAt, ownerIn, ownerOf, pagesOf, wrongLength}
 use Rattle.objects.specs.Objects.{kindOf, wordCount, markOf, wordAt}
 use Rattle.outcomes.specs.Store.{Store, frames, regions, pages, slot, slotTargets, breaks}
-use Rattle.outcomes.specs.Outcome.{withFrames, badLength, noFrame, oneFrame, lacks, lacksBeneath, noWord, isData, allData, checks, refusal, fillSlot, writeWord, recounted, countedIn, popFrame, pointed}
+use Rattle.outcomes.specs.Outcome.{withFrames, badLength, noFrame, oneFrame, lacks, lacksBeneath, noWord, isData, allData, checks, refusal, fillSlot, writeWord, recounted, countedIn, popFrame, pointed, viewed}
 use Rattle.outcomes.specs.Examples.{small}
 
 -- a third frame of two slots on top, the first leading to the object at 68; and the same with two frames counted
@@ -52,8 +52,11 @@ cases =
     -- a pointer word is no data, a load's target is tested, and a word is read at its own place
     ∷ (refusal three (put 0 0 9), 16)
     ∷ (refusal three (load 0 0 7), 9)
-    ∷ (refusal three (view 0), 16)
     ∷ (wordAt (three .heap) 65 1, 42)
+    ∷ (wordAt (three .heap) 65 0, 1)
+    -- view: of an object of kind 3, its two words; of one with pointer words, none
+    ∷ (bit (equal eqb (viewed three 4 .part) (7 ∷ 8 ∷ [])), 1)
+    ∷ (refusal three (view 0), 16)
     ∷ []
 
 pub computed : every (λ p. eqb (p .0) (p .1)) cases ≡ true
