@@ -110,7 +110,8 @@ fn enter_frames(f: Frames, owners: &[u8], counts: [u32; 64]) -> [u32; 64]
     c
 }
 
-// The region with entry e and tag t goes: its pages are free, then its entry, then m is raised. Gives the pages freed.
+// The region with entry e and tag t goes: its pages are free and its words out of the counts, its entry is given up, m is raised and the frames then counted enter the counts.
+// Gives the pages freed.
 fn without(s: State, heap: &[u32], e: u32, t: u32) -> Done
     ensures { λ r. ⌜ (r .state ≡ emptied s (now (heap .entry)) e t) × (answerOf (r .reply) [] ≡ gives (pagesOf (s .pages) t ∷ [])) ⌝ }
 {
@@ -125,12 +126,12 @@ fn without(s: State, heap: &[u32], e: u32, t: u32) -> Done
     let q = regions::without_region(r, e);
     let raised = frames::raise(f);
     let entered = enter_frames(f, &p.owners, left);
-    let counted = regions::with_counts(q, entered);
+    let after = regions::with_counts(q, entered);
     Done {
         state: State {
             frames: raised,
             kinds: k,
-            regions: counted,
+            regions: after,
             pages: free,
         },
         reply: checks::gives(g.number, 0, 0, 0),
@@ -145,10 +146,7 @@ pub fn delete(s: State, heap: &[u32], region: u32) -> Done
     let t = e + 1;
     let g = delete_refusal(s, heap.len(), region, e, t);
     if g != 0 {
-        return Done {
-            state: s,
-            reply: checks::refused(g),
-        };
+        return checks::refusing(s, g);
     }
     without(s, heap, e, t)
 }

@@ -27,7 +27,7 @@ use Rattle.outcomes.specs.Outcome.{Chosen, store, refusal, checks, dead, fillSl
 use Rattle.outcomes.specs.Laws.Values.{size-most}
 use Rattle.checks.specs.Checks.{orElse, topTests}
 use Rattle.checks.specs.Laws.Tests.{one-slot, else-first, else-next}
-use Rattle.calls_regions.specs.Tests.{declareTests, regionTests, newTests, subregionTests, objectTests}
+use Rattle.calls_regions.specs.Tests.{declareTests, moreTests, newTests, subregionTests, allocateTests}
 use Rattle.calls_regions.specs.Places.{freePlace, placeFor, oldestWith, withObject}
 
 -- g is what a function gave for the tests, and it accepts
@@ -36,18 +36,18 @@ unfolding declareTests
 declare-passed p n k ms g e z = let t = all-passed (declareTests p n k ms) refl (sym e ∙ z) in rw (t .1 .0, t .1 .1 .0)
 
 pub new-passed : (p : Pages) (n : ℕ) (r : Regions) (g : ℕ) → g ≡ reason (newTests p n r) → g ≡ 0 → r .given < 4294967295
-unfolding newTests regionTests
+unfolding newTests moreTests
 new-passed p n r g e z = omega (arith, leb-false 1000000 (r .given) (all-passed (newTests p n r) refl (sym e ∙ z) .1 .1 .0))
 
 pub subregion-passed : (p : Pages) (n : ℕ) (r : Regions) (i g : ℕ) → g ≡ reason (subregionTests p n r i) → g ≡ 0 → (i < 64) × (levelAt r i < 16) × (r .given < 4294967295)
-unfolding subregionTests regionTests
+unfolding subregionTests moreTests
 subregion-passed p n r i g e z =
     let t = all-passed (subregionTests p n r i) refl (sym e ∙ z) .1 in
     (ltb-true i 64 (not-false _ (t .0)), leb-false 16 (levelAt r i) (t .1 .0), omega (arith, leb-false 1000000 (r .given) (t .1 .1 .1 .0)))
 
-pub object-passed : (k : Kinds) (i kind v g : ℕ) → g ≡ reason (objectTests k i kind v) → g ≡ 0 → (i < 64) × (v ≢ 0)
-unfolding objectTests
-object-passed k i kind v g e z = let t = all-passed (objectTests k i kind v) refl (sym e ∙ z) in (ltb-true i 64 (not-false _ (t .0)), eqb-false v 0 (t .1 .1 .0))
+pub object-passed : (k : Kinds) (i kind v g : ℕ) → g ≡ reason (allocateTests k i kind v) → g ≡ 0 → (i < 64) × (v ≢ 0)
+unfolding allocateTests
+object-passed k i kind v g e z = let t = all-passed (allocateTests k i kind v) refl (sym e ∙ z) in (ltb-true i 64 (not-false _ (t .0)), eqb-false v 0 (t .1 .1 .0))
 
 pub pages-most : (p : Pages) → pageCount p ≤ 256
 unfolding pageCount
@@ -115,10 +115,10 @@ module _ (s : State) (heap : List ℕ) (slot region kind : ℕ) where
   first = reason (topTests (s .pages) (length heap) (s .frames) slot slot)
 
   abbrev second : ℕ
-  second = reason (objectTests (s .kinds) entry kind (placeFor (s .regions) (s .pages) entry (1 + words)))
+  second = reason (allocateTests (s .kinds) entry kind (placeFor (s .regions) (s .pages) entry (1 + words)))
 
   tests : refusal S (allocate slot region kind) ≡ orElse first second
-  unfolding refusal checks dead isLive size objectTests
+  unfolding refusal checks dead isLive size allocateTests
   tests =
       one-slot S (dead S region yields 2 ∷ (eqb kind 0 || ltb (kindCount (s .kinds)) kind) yields 12 ∷ (not (roomy S entry (1 + words)) && eqb (pagesOf (s .pages) 0) 0) yields 13 ∷ []) slot
       ∙ rw (place-none S entry (1 + words))
@@ -139,7 +139,7 @@ module _ (s : State) (heap : List ℕ) (slot region kind : ℕ) where
 
   -- they do not, and the second decide, on what the code found
   module _ (e m v : ℕ) (found : e ≡ entry) (sized : m ≡ words) (placed : v ≡ placeFor (s .regions) (s .pages) e (1 + m)) where
-    pub allocate-second : (t g : ℕ) → t ≡ first → t ≡ 0 → g ≡ reason (objectTests (s .kinds) e kind v) → refusal S (allocate slot region kind) ≡ g
+    pub allocate-second : (t g : ℕ) → t ≡ first → t ≡ 0 → g ≡ reason (allocateTests (s .kinds) e kind v) → refusal S (allocate slot region kind) ≡ g
     allocate-second t g p z q = tests ∙ else-next first t second p z ∙ rw (q, placed, found, sized)
 
     pub allocate-effect : (a : Answer) (T : Store) → v ≢ 0 → a ≡ gives [] → T ≡ store (withObject s slot e (1 + m) v) (sets heap (v - 1) (kind ∷ replicate m 0))

@@ -16,17 +16,17 @@ unfoldable pub declareTests : Pages → ℕ → Kinds → List ℕ → List (Boo
 declareTests p n k ms = wrongLength p n yields 21 ∷ wrongMarks ms yields 11 ∷ leb 16 (k .declared) yields 10 ∷ []
 
 -- that a region more can be made
-unfoldable pub regionTests : Regions → List (Bool × ℕ)
-regionTests r = leb 64 (liveCount r) yields 4 ∷ leb 1000000 (r .given) yields 5 ∷ []
+unfoldable pub moreTests : Regions → List (Bool × ℕ)
+moreTests r = leb 64 (liveCount r) yields 4 ∷ leb 1000000 (r .given) yields 5 ∷ []
 
 -- new region, with a heap of n words
 unfoldable pub newTests : Pages → ℕ → Regions → List (Bool × ℕ)
-newTests p n r = wrongLength p n yields 21 ∷ regionTests r
+newTests p n r = wrongLength p n yields 21 ∷ moreTests r
 
 -- subregion of the region at entry e, with a heap of n words
 unfoldable pub subregionTests : Pages → ℕ → Regions → ℕ → List (Bool × ℕ)
-subregionTests p n r e = wrongLength p n yields 21 ∷ not (ltb e 64) yields 2 ∷ leb 16 (levelAt r e) yields 20 ∷ regionTests r
+subregionTests p n r e = wrongLength p n yields 21 ∷ not (ltb e 64) yields 2 ∷ leb 16 (levelAt r e) yields 20 ∷ moreTests r
 
 -- allocate, after its slot: a region at entry e, and an object that would stand at v, 0 where there is no room
-unfoldable pub objectTests : Kinds → ℕ → ℕ → ℕ → List (Bool × ℕ)
-objectTests k e kind v = not (ltb e 64) yields 2 ∷ (eqb kind 0 || ltb (kindCount k) kind) yields 12 ∷ eqb v 0 yields 13 ∷ []
+unfoldable pub allocateTests : Kinds → ℕ → ℕ → ℕ → List (Bool × ℕ)
+allocateTests k e kind v = not (ltb e 64) yields 2 ∷ (eqb kind 0 || ltb (kindCount k) kind) yields 12 ∷ eqb v 0 yields 13 ∷ []

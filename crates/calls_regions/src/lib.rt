@@ -12,7 +12,7 @@ ghost use Rattle.model.specs.Model.{declare, newRegion, subregion, allocate, gi
 ghost use Rattle.model.specs.Calls.{reason, makes};
 ghost use Rattle.regions.specs.Regions.{newestAt};
 ghost use Rattle.outcomes.specs.Outcome.{Outcome, MakeOutcome, answerOf, store, blank};
-ghost use Rattle.calls_regions.specs.Tests.{declareTests, regionTests, newTests, subregionTests, objectTests};
+ghost use Rattle.calls_regions.specs.Tests.{declareTests, moreTests, newTests, subregionTests, allocateTests};
 ghost use Rattle.calls_regions.specs.Places.{freePlace, placeFor, oldestWith, withObject};
 
 // Whether a heap of n words can be made a store: 64 times 1 to 256.
@@ -105,7 +105,7 @@ pub fn declare(s: State, heap: &[u32], marks: &[u32]) -> Done
     let k = s.kinds;
     let g = declare_refusal(p, heap.len(), k, marks);
     if g != 0 {
-        return checks::turned(s, g);
+        return checks::refusing(s, g);
     }
     let q = kinds::with_kind(k, marks);
     let mut t = s;
@@ -117,8 +117,8 @@ pub fn declare(s: State, heap: &[u32], marks: &[u32]) -> Done
 }
 
 // 4 and 5, for one region more.
-fn region_refusal(r: Regions) -> u32
-    ensures { λ g. ⌜ g ≡ reason (regionTests r) ⌝ }
+fn more_refusal(r: Regions) -> u32
+    ensures { λ g. ⌜ g ≡ reason (moreTests r) ⌝ }
 {
     if 64 <= regions::live_count(r) {
         return 4;
@@ -136,7 +136,7 @@ fn new_refusal(p: Pages, n: usize, r: Regions) -> u32
     if pages::wrong_length(p, n) {
         return 21;
     }
-    region_refusal(r)
+    more_refusal(r)
 }
 
 // 21, 2, 20, 4 and 5, for a heap of n words and the region above at entry e.
@@ -152,7 +152,7 @@ fn subregion_refusal(p: Pages, n: usize, r: Regions, e: u32) -> u32
     if 16 <= regions::level_at(r, e) {
         return 20;
     }
-    region_refusal(r)
+    more_refusal(r)
 }
 
 // The state with these regions; the answer is the last name given.
@@ -175,7 +175,7 @@ pub fn new_region(s: State, heap: &[u32]) -> Done
     let r = s.regions;
     let g = new_refusal(p, heap.len(), r);
     if g != 0 {
-        return checks::turned(s, g);
+        return checks::refusing(s, g);
     }
     let i = regions::unused(r);
     named(s, regions::with_region(r, i, 0, 1))
@@ -190,14 +190,14 @@ pub fn subregion(s: State, heap: &[u32], above: u32) -> Done
     let e = regions::entry_of(r, above);
     let g = subregion_refusal(p, heap.len(), r, e);
     if g != 0 {
-        return checks::turned(s, g);
+        return checks::refusing(s, g);
     }
     let l = regions::level_at(r, e);
     let i = regions::unused(r);
     named(s, regions::with_region(r, i, (e + 1) as u8, (l + 1) as u8))
 }
 
-// The newest page of the region at entry e, plus 1; 0 where it has none. That it is a half bounds the place of an object on it.
+// The newest page of the region at entry e, plus 1; 0 where it has none. That it is a u16 bounds the place of an object on it.
 fn newest(r: Regions, e: u32) -> u16
     ensures { λ q. ⌜ q ≡ newestAt r e ⌝ }
 {
@@ -235,8 +235,8 @@ fn place_for(r: Regions, p: Pages, e: u32, n: u32) -> u32
 }
 
 // 2, 12 and 13, for a region at entry e and an object that would stand at v.
-fn object_refusal(k: Kinds, e: u32, kind: u32, v: u32) -> u32
-    ensures { λ g. ⌜ g ≡ reason (objectTests k e kind v) ⌝ }
+fn allocate_refusal(k: Kinds, e: u32, kind: u32, v: u32) -> u32
+    ensures { λ g. ⌜ g ≡ reason (allocateTests k e kind v) ⌝ }
 {
     if 64 <= e {
         return 2;
@@ -288,14 +288,14 @@ pub fn allocate(s: State, heap: &mut [u32], slot: u32, region: u32, kind: u32) -
     let p = s.pages;
     let t = checks::top_refusal(p, heap.len(), f, slot, slot);
     if t != 0 {
-        return checks::turned(s, t);
+        return checks::refusing(s, t);
     }
     let e = regions::entry_of(r, region);
     let n = kinds::size_of(k, kind);
     let v = place_for(r, p, e, 1 + n);
-    let g = object_refusal(k, e, kind, v);
+    let g = allocate_refusal(k, e, kind, v);
     if g != 0 {
-        return checks::turned(s, g);
+        return checks::refusing(s, g);
     }
     cells::lay(heap, v - 1, kind, n);
     Done {

@@ -16,11 +16,11 @@ pub fn first(s: State, heap: &[u32], slot: u32, region: u32) -> Done
     let e = s.regions;
     let g = checks::top_refusal(p, heap.len(), f, slot, slot);
     if g != 0 {
-        return checks::turned(s, g);
+        return checks::refusing(s, g);
     }
     let i = regions::entry_of(e, region);
     if 64 <= i {
-        return checks::turned(s, 2);
+        return checks::refusing(s, 2);
     }
     checks::filled(s, slot, regions::oldest_at(e, i))
 }
@@ -33,12 +33,12 @@ pub fn copy(s: State, heap: &[u32], from: u32, to: u32) -> Done
     let f = s.frames;
     let g = checks::top_refusal(p, heap.len(), f, from, to);
     if g != 0 {
-        return checks::turned(s, g);
+        return checks::refusing(s, g);
     }
     checks::filled(s, to, checks::top_slot(f, from))
 }
 
-// Document 01's call 11: `from` is a slot of the frame beneath.
+// Document 01's call 11: slot `to` gets what slot `from` of the frame beneath holds.
 pub fn fetch(s: State, heap: &[u32], from: u32, to: u32) -> Done
     ensures { λ r. ⌜ Outcome (fetch from to) (store s (now (heap .entry))) (answerOf (r .reply) []) (store (r .state) (now (heap .entry))) ⌝ }
 {
@@ -46,7 +46,7 @@ pub fn fetch(s: State, heap: &[u32], from: u32, to: u32) -> Done
     let f = s.frames;
     let g = checks::beneath_refusal(p, heap.len(), f, to, from);
     if g != 0 {
-        return checks::turned(s, g);
+        return checks::refusing(s, g);
     }
     checks::filled(s, to, checks::beneath_slot(f, from))
 }
@@ -59,7 +59,7 @@ pub fn clear(s: State, heap: &[u32], slot: u32) -> Done
     let f = s.frames;
     let g = checks::top_refusal(p, heap.len(), f, slot, slot);
     if g != 0 {
-        return checks::turned(s, g);
+        return checks::refusing(s, g);
     }
     checks::filled(s, slot, 0)
 }

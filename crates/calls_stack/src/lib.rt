@@ -37,7 +37,7 @@ pub fn push(s: State, heap: &[u32], slots: u32) -> Done
     let f = s.frames;
     let g = push_refusal(p, heap.len(), f, slots);
     if g != 0 {
-        return checks::turned(s, g);
+        return checks::refusing(s, g);
     }
     let h = frames::push(f, (slots % 256) as u8);
     let mut t = s;
@@ -93,7 +93,7 @@ pub fn drop(s: State, heap: &[u32]) -> Done
     let f = s.frames;
     let g = drop_refusal(p, heap.len(), f);
     if g != 0 {
-        return checks::turned(s, g);
+        return checks::refusing(s, g);
     }
     let t = pop(s);
     Done {
@@ -110,7 +110,7 @@ pub fn hand_back(s: State, heap: &[u32], slot: u32, beneath: u32) -> Done
     let f = s.frames;
     let g = checks::beneath_refusal(p, heap.len(), f, slot, beneath);
     if g != 0 {
-        return checks::turned(s, g);
+        return checks::refusing(s, g);
     }
     let v = checks::top_slot(f, slot);
     let t = pop(s);

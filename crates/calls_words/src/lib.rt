@@ -13,7 +13,7 @@ ghost use Rattle.outcomes.specs.Outcome.{Outcome, answerOf, viewAnswer, store, 
 ghost use Rattle.calls_words.specs.Words.{wordTests, countedTag};
 
 // 21, 6, 9, 14 and 15 for word w of the object in a slot; `other` is the second slot that the call names, or the same one.
-fn object_refusal(s: State, heap: &[u32], slot: u32, w: u32, other: u32) -> u32
+fn word_refusal(s: State, heap: &[u32], slot: u32, w: u32, other: u32) -> u32
     ensures { λ r. ⌜ r ≡ reason (wordTests (store s (now (heap .entry))) slot w other) ⌝ }
 {
     let p = s.pages;
@@ -46,7 +46,7 @@ fn mark_in(s: State, heap: &[u32], slot: u32, w: u32) -> u32
 fn pointer_refusal(s: State, heap: &[u32], slot: u32, w: u32, other: u32) -> u32
     ensures { λ r. ⌜ r ≡ refusal (store s (now (heap .entry))) (load slot w other) ⌝ }
 {
-    let g = object_refusal(s, heap, slot, w, other);
+    let g = word_refusal(s, heap, slot, w, other);
     if g != 0 {
         return g;
     }
@@ -60,7 +60,7 @@ fn pointer_refusal(s: State, heap: &[u32], slot: u32, w: u32, other: u32) -> u32
 fn data_refusal(s: State, heap: &[u32], slot: u32, w: u32) -> u32
     ensures { λ r. ⌜ r ≡ refusal (store s (now (heap .entry))) (get slot w) ⌝ }
 {
-    let g = object_refusal(s, heap, slot, w, slot);
+    let g = word_refusal(s, heap, slot, w, slot);
     if g != 0 {
         return g;
     }
@@ -76,14 +76,14 @@ pub fn load(s: State, heap: &[u32], slot: u32, w: u32, to: u32) -> Done
 {
     let g = pointer_refusal(s, heap, slot, w, to);
     if g != 0 {
-        return checks::turned(s, g);
+        return checks::refusing(s, g);
     }
     let f = s.frames;
     let v = checks::top_slot(f, slot);
     checks::filled(s, to, objects::word_at(heap, v, w))
 }
 
-// Document 01's call 15. The state stays as it is.
+// Document 01's call 15: a data word gets the value. The state stays as it is.
 pub fn put(s: State, heap: &mut [u32], slot: u32, w: u32, value: u32) -> Reply
     ensures { λ r. ⌜ Outcome (put slot w value) (store s (now (heap .entry))) (answerOf r []) (store s (now (heap .exit))) ⌝ }
 {
@@ -225,7 +225,7 @@ pub fn set_pointer(s: State, heap: &mut [u32], slot: u32, w: u32, value: u32) ->
 {
     let g = set_refusal(s, heap, slot, w, value);
     if g != 0 {
-        return checks::turned(s, g);
+        return checks::refusing(s, g);
     }
     let f = s.frames;
     let v = checks::top_slot(f, slot);

@@ -147,7 +147,7 @@ fn above() {
     shows(s, &mut heap, 1, REPORT, 1, 0, 0);
 }
 
-// Push 9: 8. The 33rd frame: 7. The 64th live region: accepted; the 65th: 4.
+// A frame of 9 slots gives 8, one above 32 frames 7; a 64th live region is made, a 65th gives 4.
 fn limits() {
     let mut heap = [0u32; 64];
     let s = made(&mut heap);
@@ -183,13 +183,13 @@ fn mark() {
 }
 
 fn main() {
-    // A heap of 0 words: 1. 64: accepted. 16,384: accepted. 16,448: 1.
+    // Make of 1 and of 256 pages is accepted; of no word and of 257 pages it is refused by 1.
     let mut heap = [0u32; 16448];
     makes(&mut heap, 0);
     makes(&mut heap, 64);
     makes(&mut heap, 16384);
     makes(&mut heap, 16448);
-    // 17 marks: 11. 16 marks: accepted.
+    // A kind of 17 marks is refused by 11, one of 16 is not.
     declares(&[0u32; 17]);
     declares(&[0u32; 16]);
     // Kinds of 15 and of 16 words: four and three to a page.

@@ -96,8 +96,7 @@ pub fn beneath_slot(f: Frames, s: u32) -> u32
 pub fn tag_of(p: Pages, v: u32) -> u32
     ensures { λ r. ⌜ r ≡ ownerOf p v ⌝ }
 {
-    let o = p.owners;
-    pages::owner_of(&o, v)
+    pages::owner_of(&p.owners, v)
 }
 
 // 21, and 2 unless e is an entry, as it is for the name of a live region.
@@ -122,7 +121,7 @@ pub fn with_slot(s: State, i: u32, v: u32) -> State
 }
 
 // A refused call: the state as it was.
-pub fn turned(s: State, n: u32) -> Done
+pub fn refusing(s: State, n: u32) -> Done
     ensures { λ r. ⌜ (answerOf (r .reply) [] ≡ refusedBy n) × (r .state ≡ s) ⌝ }
 {
     Done {

@@ -27,15 +27,13 @@ pub fn top(f: Frames) -> u32
 pub fn width_at(f: Frames, i: u32) -> u32
     ensures { λ r. ⌜ r ≡ widthAt f i ⌝ }
 {
-    let a = f.widths;
-    cells::byte(&a, i as usize)
+    cells::byte(&f.widths, i as usize)
 }
 
 pub fn slot_at(f: Frames, i: u32, s: u32) -> u32
     ensures { λ r. ⌜ r ≡ slotAt f i s ⌝ }
 {
-    let a = f.slots;
-    cells::word(&a, 8 * (i as usize) + (s as usize))
+    cells::word(&f.slots, 8 * (i as usize) + (s as usize))
 }
 
 pub fn put_slot(f: Frames, i: u32, s: u32, v: u32) -> Frames

@@ -28,8 +28,7 @@ pub fn size_of(k: Kinds, n: u32) -> u32
 {
     if 0 < n {
         if n <= kind_count(k) {
-            let a = k.sizes;
-            return cells::least(cells::byte(&a, (n - 1) as usize), 16);
+            return cells::least(cells::byte(&k.sizes, (n - 1) as usize), 16);
         }
     }
     0
@@ -38,8 +37,7 @@ pub fn size_of(k: Kinds, n: u32) -> u32
 pub fn mark_at(k: Kinds, n: u32, w: u32) -> u32
     ensures { λ r. ⌜ r ≡ markAt k n w ⌝ }
 {
-    let a = k.marks;
-    cells::byte(&a, 16 * (cells::less(n) as usize) + (w as usize))
+    cells::byte(&k.marks, 16 * (cells::less(n) as usize) + (w as usize))
 }
 
 // Whether a mark is above 4.
@@ -121,8 +119,8 @@ fn all_zero(marks: &[u8], n: u32, size: u32) -> bool
 pub fn all_data(k: Kinds, n: u32) -> bool
     ensures { λ r. ⌜ r ≡ allData k n ⌝ }
 {
-    let a = k.marks;
-    all_zero(&a, n, size_of(k, n))
+    let size = size_of(k, n);
+    all_zero(&k.marks, n, size)
 }
 
 // Whether a word marked k, of an object of the region named h below the region named u, may lead into the region named t.

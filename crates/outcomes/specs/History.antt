@@ -116,18 +116,18 @@ abbrev pub into : History → ℕ → ℕ → Bool
 into h r v = eqb (homeOf h v) r
 
 -- a region's outside pointers: slots, and words marked 1 of objects of other regions (document 01, The store)
-unfoldable pub slotsInto : History → Store → ℕ → ℕ → ℕ
-slotsInto h S r i = count (into h r) (slotsOf h S i)
+unfoldable pub slotsLeadingTo : History → Store → ℕ → ℕ → ℕ
+slotsLeadingTo h S r i = count (into h r) (slotsOf h S i)
 
-unfoldable pub wordsInto : History → Store → ℕ → Object → ℕ
-wordsInto h S r o = pick (eqb (o .home) r) 0 (count (λ w. eqb (w .mark) 1 && into h r (w .value)) (pointersOf h S o))
+unfoldable pub wordsLeadingTo : History → Store → ℕ → Object → ℕ
+wordsLeadingTo h S r o = pick (eqb (o .home) r) 0 (count (λ w. eqb (w .mark) 1 && into h r (w .value)) (pointersOf h S o))
 
 unfoldable pub outside : History → Store → ℕ → ℕ
-outside h S r = sum (slotsInto h S r) (upTo (length (h .frames))) + sum (wordsInto h S r) (h .objects)
+outside h S r = sum (slotsLeadingTo h S r) (upTo (length (h .frames))) + sum (wordsLeadingTo h S r) (h .objects)
 
 -- those in uncounted frames: all frames above the lowest m
 unfoldable pub uncountedInto : History → Store → ℕ → ℕ
-uncountedInto h S r = sum (λ i. pick (leb (h .counted) i) (slotsInto h S r i) 0) (upTo (length (h .frames)))
+uncountedInto h S r = sum (λ i. pick (leb (h .counted) i) (slotsLeadingTo h S r i) 0) (upTo (length (h .frames)))
 
 -- the stored count of the region named r, at the entry that has that name; 0 where none has
 unfoldable pub storedCount : Store → ℕ → ℕ

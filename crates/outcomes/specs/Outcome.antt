@@ -54,6 +54,7 @@ lacksBeneath S s = leb (widthAt (frames S) (topFrame (frames S) - 1)) s
 unfoldable pub dead : Store → ℕ → Bool
 dead S r = not (isLive (regions S) r)
 
+-- 64 regions live; the last name was given
 unfoldable pub full : Store → Bool
 full S = leb 64 (liveCount (regions S))
 
@@ -184,6 +185,7 @@ deleted S r =
 
 -- ---- what a call gives and leaves
 
+-- the answer a is b, and the store left, T, is U
 abbrev pub Leaves : Answer → Answer → Store → Store → Type 0
 Leaves a b T U = (a ≡ b) × (T ≡ U)
 

@@ -68,10 +68,14 @@ OnlyNamed =
     (c : Call) (S : Store) (a : Answer) (T : Store) → Outcome c S a T
     → (p : ℕ) → (getD (T .heap) p 0 ≡ getD (S .heap) p 0) ⊎ Named c S T p
 
--- an outcome is a value of the language's types: numbers stay below their width. Of the arguments only put's value goes in unchecked
+-- a call's arguments are u32 numbers. Of them only put's value goes in unchecked, so only of it must that be said
+abbrev pub Sent : Call → Type 0
+Sent c = (s w x : ℕ) → c ≡ put s w x → x < 4294967296
+
+-- an outcome is a value of the language's types: numbers stay below their width.
 unfoldable pub KeepsShape : Type 0
 KeepsShape =
-    (c : Call) (S : Store) (a : Answer) (T : Store) → ((s w x : ℕ) → c ≡ put s w x → x < 4294967296) → Shaped S → Outcome c S a T
+    (c : Call) (S : Store) (a : Answer) (T : Store) → Sent c → Shaped S → Outcome c S a T
     → Shaped T × All (λ x. x < 4294967296) (a .values)
 
 -- audit answers 1 exactly where its condition holds, else 0, and changes nothing

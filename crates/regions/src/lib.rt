@@ -102,7 +102,7 @@ pub fn count_at(r: Regions, i: u32) -> u32
     cells::word(&r.counts, i as usize)
 }
 
-// Below the last name there is, `given + 1` does not wrap.
+// A region under the next name at entry i. `given + 1` does not wrap where `given` is below the last name that can be given.
 pub fn with_region(r: Regions, i: u32, t: u8, l: u8) -> Regions
     ensures { λ s. ⌜ (r .given < 4294967295 → s ≡ withRegion r i t l) ⌝ }
 {

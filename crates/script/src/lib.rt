@@ -82,7 +82,7 @@ pub fn line_at(s: &[u8], at: usize) -> &[u8]
     &s[at..end]
 }
 
-// The number that a word writes, or 2^32 where it writes none.
+// The number that a word writes, or 2^32 where it writes none below 2^32.
 fn number(w: &[u8]) -> u64
     ensures { λ r. ⌜ r ≡ value (now (w .entry)) ⌝ }
 {

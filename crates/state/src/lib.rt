@@ -20,6 +20,7 @@ pub struct Reply {
     pub d: u32,
 }
 
+// What a call that can change the state gives: the state as it left it, and the reply.
 pub struct Done {
     pub state: State,
     pub reply: Reply,

@@ -30,7 +30,7 @@ ghost use mathlib.Core.Path.{_≡_};
 ghost use Rattle.outcomes.specs.Outcome.{store};
 ghost use Rattle.store.specs.Dispatch.{Dispatched};
 
-// A call that leaves the state.
+// A call that leaves the state as it was.
 fn unchanged(s: State, reply: Reply) -> Done
     ensures { λ r. ⌜ (r .state ≡ s) × (r .reply ≡ reply) ⌝ }
 {

@@ -160,13 +160,13 @@ module _ (S : Store) where
           let t = times (suc i) (countedTags (S .state) (S .heap)) in
           let m = (frames S) .counted in
           let r = nameAt (regions S) i in
-          let f = history.slotsInto (begin S) S r in
+          let f = history.slotsLeadingTo (begin S) S r in
           let e : min m (frameCount (frames S)) ≡ m = omega (arith, marked) in
           let a = sum-below f (slotsInto S (suc i)) m (λ k b. slots-into S h i n k (omega (arith, marked)) (slot-known k (omega (arith, marked)))) in
           let b = words-into S h i n page-known in
           let u = rw e at (sum-above f m (frameCount (frames S))) in
           rw (entry-is S (h .names) (h .few) i n, frames-length S, moved-at ((regions S) .counts) [] (countedTags (S .state) (S .heap)) i l, rolled-zero c t (cs .1 i) (tags-below (suc i)))
-          (eqb-iff (c + sum (λ k. pick (leb m k) (f k) 0) (upTo (frameCount (frames S)))) (sum f (upTo (frameCount (frames S))) + sum (history.wordsInto (begin S) S r) ((begin S) .objects)) c t (λ q. omega (arith, a, b, u, all-tags (suc i))) (λ q. omega (arith, a, b, u, all-tags (suc i))))
+          (eqb-iff (c + sum (λ k. pick (leb m k) (f k) 0) (upTo (frameCount (frames S)))) (sum f (upTo (frameCount (frames S))) + sum (history.wordsLeadingTo (begin S) S r) ((begin S) .objects)) c t (λ q. omega (arith, a, b, u, all-tags (suc i))) (λ q. omega (arith, a, b, u, all-tags (suc i))))
 
       pub counts-same : countsExact (begin S) S ≡ countsFit (S .state) (S .heap)
       unfolding countsExact begin listedRegions countsFit allZero isZero

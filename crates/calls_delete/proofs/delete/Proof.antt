@@ -1,11 +1,11 @@
-use mathlib.Core.Path.{_≡_, refl, sym, _∙_}
+use mathlib.Core.Path.{_≡_, sym, _∙_}
 use native.Mathlib.Omega.{arith}
 use borrow.Author.Needs.{needs}
 use Rattle.model.specs.Model.{delete}
 use Rattle.regions.specs.Regions.{tagOf}
 use Rattle.outcomes.specs.Outcome.{store, refusal, Accepted}
-use Rattle.outcomes.specs.Laws.Steps.{by-refusal, by-effect}
-use Rattle.checks.specs.Laws.Tests.{entry-most}
+use Rattle.outcomes.specs.Laws.Steps.{by-effect}
+use Rattle.checks.specs.Laws.Tests.{entry-most, by-refusing}
 use Rattle.calls_delete.specs.Laws.Delete.{delete-refused, delete-leaves}
 use Rattle.calls_delete.proofs.delete.Statement.{statement}
 use Rattle.calls_delete.proofs.delete.Tie as tie
@@ -18,7 +18,7 @@ unfolding tagOf
 refused-by c = delete-refused _ _ ∙ rw (← c .before .entry-of .ensures) (sym (c .delete-refusal .ensures))
 
 returns : tie.Need-returns
-returns c = by-refusal _ _ _ _ _ (refused-by (c .before .before)) (c .before .if1 .taken) (c .refused .ensures) refl
+returns c = by-refusing _ _ _ _ _ _ (refused-by (c .before .before)) (c .before .if1 .taken) (c .refusing .ensures)
 
 returns-2 : tie.Need-returns-2
 unfolding Accepted tagOf

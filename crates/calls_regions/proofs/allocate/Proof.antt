@@ -9,8 +9,8 @@ use Rattle.calls_regions.proofs.allocate.Tie as tie
 
 returns : tie.Need-returns
 returns c =
-    by-refusal _ _ _ _ _ (allocate-first _ _ _ _ _ _ (c .before .before .top-refusal .ensures) (c .before .if1 .taken)) (c .before .if1 .taken) (c .turned .ensures .0)
-    (rw (c .turned .ensures .1))
+    by-refusal _ _ _ _ _ (allocate-first _ _ _ _ _ _ (c .before .before .top-refusal .ensures) (c .before .if1 .taken)) (c .before .if1 .taken) (c .refusing .ensures .0)
+    (rw (c .refusing .ensures .1))
 
 add-place-for : tie.Need-add-place-for
 add-place-for c = omega (arith, size-small _ _ _ (c .size-of .ensures))
@@ -24,11 +24,11 @@ returns-2 c =
     let p = o .before in
     let t = p .before .before .before in
     by-refusal _ _ _ _ _
-    (allocate-second _ _ _ _ _ _ _ _ (p .before .before .entry-of .ensures) (p .before .size-of .ensures) (p .place-for .ensures .0) _ _ (t .before .top-refusal .ensures) (t .if1 .left) (o .object-refusal .ensures))
-    (c .before .if2 .taken) (c .turned2 .ensures .0) (rw (c .turned2 .ensures .1))
+    (allocate-second _ _ _ _ _ _ _ _ (p .before .before .entry-of .ensures) (p .before .size-of .ensures) (p .place-for .ensures .0) _ _ (t .before .top-refusal .ensures) (t .if1 .left) (o .allocate-refusal .ensures))
+    (c .before .if2 .taken) (c .refusing2 .ensures .0) (rw (c .refusing2 .ensures .1))
 
 sub-lay : tie.Need-sub-lay
-sub-lay c = omega (arith, object-passed _ _ _ _ _ (c .before .before .object-refusal .ensures) (c .before .if2 .left) .1)
+sub-lay c = omega (arith, object-passed _ _ _ _ _ (c .before .before .allocate-refusal .ensures) (c .before .if2 .left) .1)
 
 add-with-object : tie.Need-add-with-object
 add-with-object c = omega (arith, size-small _ _ _ (c .before .before .before .before .before .before .before .size-of .ensures))
@@ -36,7 +36,7 @@ add-with-object c = omega (arith, size-small _ _ _ (c .before .before .before .b
 with-object-requires : tie.Need-with-object-requires
 with-object-requires c κs =
     let o = c .before .before .before .before .before in
-    let q = object-passed _ _ _ _ _ (o .object-refusal .ensures) (c .before .before .before .before .if2 .left) in
+    let q = object-passed _ _ _ _ _ (o .allocate-refusal .ensures) (c .before .before .before .before .if2 .left) in
     (q .0, omega (arith, size-small _ _ _ (o .before .before .size-of .ensures)), omega (arith, q .1), o .before .place-for .ensures .1)
 
 returns-3 : tie.Need-returns-3
@@ -49,8 +49,8 @@ returns-3 c =
     let n = p .before .size-of .ensures in
     let v = p .place-for .ensures .0 in
     let z = l .before .before .if2 .left in
-    by-effect _ _ _ _ (allocate-second _ _ _ _ _ _ _ _ e n v _ _ (t .before .top-refusal .ensures) (t .if1 .left) (o .object-refusal .ensures) ∙ z)
-    (allocate-effect _ _ _ _ _ _ _ _ e n v _ _ (object-passed _ _ _ _ _ (o .object-refusal .ensures) z .1) (c .gives .ensures)
+    by-effect _ _ _ _ (allocate-second _ _ _ _ _ _ _ _ e n v _ _ (t .before .top-refusal .ensures) (t .if1 .left) (o .allocate-refusal .ensures) ∙ z)
+    (allocate-effect _ _ _ _ _ _ _ _ e n v _ _ (object-passed _ _ _ _ _ (o .allocate-refusal .ensures) z .1) (c .gives .ensures)
     (ap₂ store (c .before .with-object .ensures) (l .lay .ensures)))
 
 pub allocate-spec : {M : Type 1} → statement M

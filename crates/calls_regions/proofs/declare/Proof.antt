@@ -19,7 +19,7 @@ unfolding refusal checks badLength declareTests wrongMarks
 tests s heap ms = refl
 
 returns : tie.Need-returns
-returns c = by-refusal _ _ _ _ _ (tests _ _ _ ∙ sym (c .before .before .declare-refusal .ensures)) (c .before .if1 .taken) (c .turned .ensures .0) (rw (c .turned .ensures .1))
+returns c = by-refusal _ _ _ _ _ (tests _ _ _ ∙ sym (c .before .before .declare-refusal .ensures)) (c .before .if1 .taken) (c .refusing .ensures .0) (rw (c .refusing .ensures .1))
 
 returns-2 : tie.Need-returns-2
 unfolding Accepted withKind

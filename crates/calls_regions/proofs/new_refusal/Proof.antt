@@ -9,7 +9,7 @@ returns c = rw (← c .before .wrong-length .ensures) (simp (c .if1 .taken))
 
 returns-2 : tie.Need-returns-2
 unfolding newTests
-returns-2 c = rw (← c .before .before .wrong-length .ensures, ← c .region-refusal .ensures) (simp (c .before .if1 .left))
+returns-2 c = rw (← c .before .before .wrong-length .ensures, ← c .more-refusal .ensures) (simp (c .before .if1 .left))
 
 pub new-refusal-spec : {M : Type 1} → statement M
 new-refusal-spec = tie.close (tie.spec (λ c κs. search needs) returns (λ c κs. search needs) returns-2)

@@ -9,17 +9,17 @@ use Rattle.outcomes.specs.Outcome.{store, refusal, checks, badLength, full, nam
 use Rattle.model.specs.Calls.{reason}
 use Rattle.state.specs.declared.State.{State}
 use Rattle.outcomes.specs.Laws.Steps.{by-refusal, by-effect}
-use Rattle.calls_regions.specs.Tests.{newTests, regionTests}
+use Rattle.calls_regions.specs.Tests.{newTests, moreTests}
 use Rattle.calls_regions.proofs.Laws.{new-passed}
 use Rattle.calls_regions.proofs.new_region.Statement.{statement}
 use Rattle.calls_regions.proofs.new_region.Tie as tie
 
 tests : (s : State) (heap : List ℕ) → refusal (store s heap) newRegion ≡ reason (newTests (s .pages) (length heap) (s .regions))
-unfolding refusal checks badLength full namesOut newTests regionTests
+unfolding refusal checks badLength full namesOut newTests moreTests
 tests s heap = refl
 
 returns : tie.Need-returns
-returns c = by-refusal _ _ _ _ _ (tests _ _ ∙ sym (c .before .before .new-refusal .ensures)) (c .before .if1 .taken) (c .turned .ensures .0) (rw (c .turned .ensures .1))
+returns c = by-refusal _ _ _ _ _ (tests _ _ ∙ sym (c .before .before .new-refusal .ensures)) (c .before .if1 .taken) (c .refusing .ensures .0) (rw (c .refusing .ensures .1))
 
 returns-2 : tie.Need-returns-2
 unfolding Accepted withRegion

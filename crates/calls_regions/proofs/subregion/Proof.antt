@@ -10,19 +10,19 @@ use Rattle.outcomes.specs.Outcome.{store, refusal, checks, badLength, dead, ful
 use Rattle.model.specs.Calls.{reason}
 use Rattle.state.specs.declared.State.{State}
 use Rattle.outcomes.specs.Laws.Steps.{by-refusal, by-effect}
-use Rattle.calls_regions.specs.Tests.{subregionTests, regionTests}
+use Rattle.calls_regions.specs.Tests.{subregionTests, moreTests}
 use Rattle.calls_regions.proofs.Laws.{subregion-passed}
 use Rattle.calls_regions.proofs.subregion.Statement.{statement}
 use Rattle.calls_regions.proofs.subregion.Tie as tie
 
 tests : (s : State) (heap : List ℕ) (r e : ℕ) → e ≡ entryOf (s .regions) r → refusal (store s heap) (subregion r) ≡ reason (subregionTests (s .pages) (length heap) (s .regions) e)
-unfolding refusal checks badLength dead isLive full namesOut subregionTests regionTests
+unfolding refusal checks badLength dead isLive full namesOut subregionTests moreTests
 tests s heap r e q = rw q
 
 returns : tie.Need-returns
 returns c =
     let t = c .before .before in
-    by-refusal _ _ _ _ _ (tests _ _ _ _ (t .before .entry-of .ensures) ∙ sym (t .subregion-refusal .ensures)) (c .before .if1 .taken) (c .turned .ensures .0) (rw (c .turned .ensures .1))
+    by-refusal _ _ _ _ _ (tests _ _ _ _ (t .before .entry-of .ensures) ∙ sym (t .subregion-refusal .ensures)) (c .before .if1 .taken) (c .refusing .ensures .0) (rw (c .refusing .ensures .1))
 
 -- the entry and the level fit their bytes, with 1 more
 entry-fits : tie.Need-cast-with-region

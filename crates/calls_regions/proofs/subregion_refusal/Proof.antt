@@ -18,7 +18,7 @@ returns-3 c = rw (← c .before .before .before .before .wrong-length .ensures, 
 
 returns-4 : tie.Need-returns-4
 unfolding subregionTests
-returns-4 c = rw (← c .before .before .before .before .before .wrong-length .ensures, ← c .before .before .level-at .ensures, ← c .region-refusal .ensures) (simp (c .before .before .before .before .if1 .left, lt-ltb _ _ (c .before .before .before .if2 .left), lt-leb _ _ (c .before .if3 .left)))
+returns-4 c = rw (← c .before .before .before .before .before .wrong-length .ensures, ← c .before .before .level-at .ensures, ← c .more-refusal .ensures) (simp (c .before .before .before .before .if1 .left, lt-ltb _ _ (c .before .before .before .if2 .left), lt-leb _ _ (c .before .if3 .left)))
 
 pub subregion-refusal-spec : {M : Type 1} → statement M
 subregion-refusal-spec = tie.close (tie.spec (λ c κs. search needs) returns returns-2 (λ c κs. search needs) returns-3 (λ c κs. search needs) returns-4)

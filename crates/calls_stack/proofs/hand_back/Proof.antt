@@ -3,13 +3,13 @@ use borrow.Author.Needs.{needs}
 use Rattle.outcomes.specs.Store.{slot}
 use Rattle.outcomes.specs.Outcome.{Accepted}
 use Rattle.outcomes.specs.Laws.Steps.{by-effect}
-use Rattle.checks.specs.Laws.Tests.{by-turned}
+use Rattle.checks.specs.Laws.Tests.{by-refusing}
 use Rattle.calls_stack.proofs.Laws.{hand-tests, back-is}
 use Rattle.calls_stack.proofs.hand_back.Statement.{statement}
 use Rattle.calls_stack.proofs.hand_back.Tie as tie
 
 returns : tie.Need-returns
-returns c = by-turned _ _ _ _ _ _ (hand-tests _ _ _ ∙ sym (c .before .before .beneath-refusal .ensures)) (c .before .if1 .taken) (c .turned .ensures)
+returns c = by-refusing _ _ _ _ _ _ (hand-tests _ _ _ ∙ sym (c .before .before .beneath-refusal .ensures)) (c .before .if1 .taken) (c .refusing .ensures)
 
 returns-2 : tie.Need-returns-2
 unfolding Accepted slot

@@ -4,13 +4,13 @@ use borrow.Author.Tests.{lt-leb}
 use Rattle.frames.specs.Frames.{pushed}
 use Rattle.outcomes.specs.Outcome.{Accepted}
 use Rattle.outcomes.specs.Laws.Steps.{by-effect}
-use Rattle.checks.specs.Laws.Tests.{by-turned}
+use Rattle.checks.specs.Laws.Tests.{by-refusing}
 use Rattle.calls_stack.proofs.Laws.{push-tests, push-small}
 use Rattle.calls_stack.proofs.push.Statement.{statement}
 use Rattle.calls_stack.proofs.push.Tie as tie
 
 returns : tie.Need-returns
-returns c = by-turned _ _ _ _ _ _ (push-tests _ _ ∙ sym (c .before .before .push-refusal .ensures)) (c .before .if1 .taken) (c .turned .ensures)
+returns c = by-refusing _ _ _ _ _ _ (push-tests _ _ ∙ sym (c .before .before .push-refusal .ensures)) (c .before .if1 .taken) (c .refusing .ensures)
 
 returns-2 : tie.Need-returns-2
 unfolding Accepted pushed

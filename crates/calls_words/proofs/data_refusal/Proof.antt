@@ -7,15 +7,15 @@ use Rattle.calls_words.proofs.data_refusal.Statement.{statement}
 use Rattle.calls_words.proofs.data_refusal.Tie as tie
 
 returns : tie.Need-returns
-returns c = rw (get-tests, ← c .before .object-refusal .ensures) (simp (ne-eqb _ _ (c .if1 .taken)))
+returns c = rw (get-tests, ← c .before .word-refusal .ensures) (simp (ne-eqb _ _ (c .if1 .taken)))
 
 returns-2 : tie.Need-returns-2
 unfolding slot isData
-returns-2 c = rw (get-tests, ← c .before .before .before .object-refusal .ensures, ← c .before .mark-in .ensures) (simp (eq-eqb _ _ (c .before .before .if1 .left), ne-eqb _ _ (c .if2 .taken)))
+returns-2 c = rw (get-tests, ← c .before .before .before .word-refusal .ensures, ← c .before .mark-in .ensures) (simp (eq-eqb _ _ (c .before .before .if1 .left), ne-eqb _ _ (c .if2 .taken)))
 
 returns-3 : tie.Need-returns-3
 unfolding slot isData
-returns-3 c = rw (get-tests, ← c .before .before .before .object-refusal .ensures, ← c .before .mark-in .ensures) (simp (eq-eqb _ _ (c .before .before .if1 .left), eq-eqb _ _ (c .if2 .left)))
+returns-3 c = rw (get-tests, ← c .before .before .before .word-refusal .ensures, ← c .before .mark-in .ensures) (simp (eq-eqb _ _ (c .before .before .if1 .left), eq-eqb _ _ (c .if2 .left)))
 
 pub data-refusal-spec : {M : Type 1} → statement M
 data-refusal-spec = tie.close (tie.spec (λ c κs. search needs) returns (λ c κs. search needs) returns-2 returns-3)

@@ -2,12 +2,12 @@ use mathlib.Core.Path.{refl, sym, _∙_}
 use borrow.Author.Needs.{needs}
 use Rattle.outcomes.specs.Store.{slot}
 use Rattle.outcomes.specs.Outcome.{Accepted}
-use Rattle.checks.specs.Laws.Tests.{by-turned, by-filled}
+use Rattle.checks.specs.Laws.Tests.{by-refusing, by-filled}
 use Rattle.calls_words.proofs.load.Statement.{statement}
 use Rattle.calls_words.proofs.load.Tie as tie
 
 returns : tie.Need-returns
-returns c = by-turned _ _ _ _ _ _ (sym (c .before .before .pointer-refusal .ensures)) (c .before .if1 .taken) (c .turned .ensures)
+returns c = by-refusing _ _ _ _ _ _ (sym (c .before .before .pointer-refusal .ensures)) (c .before .if1 .taken) (c .refusing .ensures)
 
 returns-2 : tie.Need-returns-2
 unfolding Accepted slot

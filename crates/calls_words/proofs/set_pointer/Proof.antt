@@ -3,12 +3,12 @@ use borrow.Author.Needs.{needs}
 use Rattle.outcomes.specs.Store.{slot}
 use Rattle.outcomes.specs.Outcome.{pointed, writeWord, recounted, Accepted}
 use Rattle.outcomes.specs.Laws.Steps.{by-effect}
-use Rattle.checks.specs.Laws.Tests.{by-turned}
+use Rattle.checks.specs.Laws.Tests.{by-refusing}
 use Rattle.calls_words.proofs.set_pointer.Statement.{statement}
 use Rattle.calls_words.proofs.set_pointer.Tie as tie
 
 returns : tie.Need-returns
-returns c = by-turned _ _ _ _ _ _ (sym (c .before .before .set-refusal .ensures)) (c .before .if1 .taken) (c .turned .ensures)
+returns c = by-refusing _ _ _ _ _ _ (sym (c .before .before .set-refusal .ensures)) (c .before .if1 .taken) (c .refusing .ensures)
 
 returns-2 : tie.Need-returns-2
 unfolding Accepted pointed writeWord recounted slot

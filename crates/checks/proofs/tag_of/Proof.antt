@@ -5,7 +5,7 @@ use Rattle.checks.proofs.tag_of.Tie as tie
 
 returns : tie.Need-returns
 unfolding ownerOf
-returns c = c .owner-of .ensures
+returns c = rw (← c .owner-of .ensures)
 
 pub tag-of-spec : {M : Type 1} → statement M
-tag-of-spec = tie.close (tie.spec (λ c. search needs) (λ c κs. search needs) returns)
+tag-of-spec = tie.close (tie.spec (λ c κs. search needs) returns)

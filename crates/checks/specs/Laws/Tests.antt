@@ -68,8 +68,8 @@ else-next t g h e z = rw (← e, z)
 -- ---- outcomes by what the shared functions ensure
 
 module _ (c : Call) (s : State) (heap : List ℕ) (a : Answer) (t : State) where
-  pub by-turned : (n : ℕ) → refusal (store s heap) c ≡ n → n ≢ 0 → (a ≡ refusedBy n) × (t ≡ s) → Outcome c (store s heap) a (store t heap)
-  by-turned n e z h = by-refusal c (store s heap) a (store t heap) n e z (h .0) (ap (λ u. store u heap) (h .1))
+  pub by-refusing : (n : ℕ) → refusal (store s heap) c ≡ n → n ≢ 0 → (a ≡ refusedBy n) × (t ≡ s) → Outcome c (store s heap) a (store t heap)
+  by-refusing n e z h = by-refusal c (store s heap) a (store t heap) n e z (h .0) (ap (λ u. store u heap) (h .1))
 
   -- slot i of the top frame gets v, which is what the call says, w
   pub by-filled : (i v w : ℕ) → refusal (store s heap) c ≡ 0 → Accepted c (store s heap) (gives []) (fillSlot (store s heap) i w) → v ≡ w

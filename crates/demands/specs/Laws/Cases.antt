@@ -13,7 +13,7 @@ use Rattle.kinds.specs.Kinds.{kindCount, sizeOf, markAt}
 use Rattle.regions.specs.Regions.{nameAt, nameOf, entryOf, parentAt, countAt}
 use Rattle.pages.specs.Pages.{pageCount, ownerAt, takenAt, isFree}
 use Rattle.objects.specs.Objects.{walk, headersTo, headersOn}
-use Rattle.outcomes.specs.History.{History, begin, entries, listedRegions, listedKinds, listedFrames, listedHeld, listedFree, metOn, slotsOf, pointersOf, homeOf, slotsInto, wordsInto, outside, storedCount, subregions, holders}
+use Rattle.outcomes.specs.History.{History, begin, entries, listedRegions, listedKinds, listedFrames, listedHeld, listedFree, metOn, slotsOf, pointersOf, homeOf, slotsLeadingTo, wordsLeadingTo, outside, storedCount, subregions, holders}
 use Rattle.outcomes.specs.Examples.{small}
 use Rattle.refinement.specs.Runs.{Event}
 use Rattle.demands.specs.Told.{opening, withFrames, born, popped, objectMade, ended, told, note}
@@ -50,5 +50,5 @@ cases =
     ∷ []
 
 pub computed : every (λ p. eqb (p .0) (p .1)) cases ≡ true
-unfolding opening born popped ended told note frameCount widthAt slotAt kindCount sizeOf markAt nameAt nameOf entryOf parentAt countAt pageCount ownerAt takenAt isFree walk headersTo headersOn begin entries listedRegions listedKinds listedFrames listedHeld listedFree metOn slotsOf pointersOf homeOf slotsInto wordsInto outside storedCount subregions
+unfolding opening born popped ended told note frameCount widthAt slotAt kindCount sizeOf markAt nameAt nameOf entryOf parentAt countAt pageCount ownerAt takenAt isFree walk headersTo headersOn begin entries listedRegions listedKinds listedFrames listedHeld listedFree metOn slotsOf pointersOf homeOf slotsLeadingTo wordsLeadingTo outside storedCount subregions
 computed = refl

@@ -5,7 +5,7 @@ use Rattle.frames.proofs.slot_at.Tie as tie
 
 returns : tie.Need-returns
 unfolding slotAt
-returns c = c .word .ensures
+returns c = rw (← c .word .ensures)
 
 pub slot-at-spec : {M : Type 1} → statement M
-slot-at-spec = tie.close (tie.spec (λ c. search needs) (λ c. search needs) (λ c. search needs) (λ c κs. search needs) returns)
+slot-at-spec = tie.close (tie.spec (λ c. search needs) (λ c. search needs) (λ c κs. search needs) returns)

@@ -5,7 +5,7 @@ use Rattle.frames.proofs.width_at.Tie as tie
 
 returns : tie.Need-returns
 unfolding widthAt
-returns c = c .byte .ensures
+returns c = rw (← c .byte .ensures)
 
 pub width-at-spec : {M : Type 1} → statement M
-width-at-spec = tie.close (tie.spec (λ c. search needs) (λ c κs. search needs) returns)
+width-at-spec = tie.close (tie.spec (λ c κs. search needs) returns)

@@ -5,7 +5,7 @@ use Rattle.kinds.proofs.all_data.Tie as tie
 
 returns : tie.Need-returns
 unfolding allData markAt
-returns c = rw (← c .before .size-of .ensures, ← c .all-zero .ensures)
+returns c = rw (← c .before .before .before .before .size-of .ensures, ← c .all-zero .ensures)
 
 pub all-data-spec : {M : Type 1} → statement M
-all-data-spec = tie.close (tie.spec (λ c. search needs) (λ c κs. search needs) (λ c κs. search needs) returns)
+all-data-spec = tie.close (tie.spec (λ c κs. search needs) (λ c κs. search needs) returns)

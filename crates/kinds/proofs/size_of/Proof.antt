@@ -6,7 +6,7 @@ use Rattle.kinds.proofs.size_of.Tie as tie
 
 returns : tie.Need-returns
 unfolding sizeOf
-returns c = rw (← c .before .before .before .before .before .kind-count .ensures, ← c .before .byte .ensures, ← c .least .ensures) (simp (lt-ltb _ _ (c .before .before .before .before .before .before .if1 .taken), le-leb _ _ (c .before .before .before .before .if2 .taken)))
+returns c = rw (← c .before .before .before .before .before .before .kind-count .ensures, ← c .before .byte .ensures, ← c .least .ensures) (simp (lt-ltb _ _ (c .before .before .before .before .before .before .before .if1 .taken), le-leb _ _ (c .before .before .before .before .before .if2 .taken)))
 
 returns-2 : tie.Need-returns-2
 unfolding sizeOf
@@ -17,4 +17,4 @@ unfolding sizeOf
 returns-3 c = simp (le-ltb _ _ (c .if1 .left))
 
 pub size-of-spec : {M : Type 1} → statement M
-size-of-spec = tie.close (tie.spec (λ c κs. search needs) (λ c. search needs) (λ c. search needs) (λ c. search needs) (λ c κs. search needs) (λ c κs. search needs) returns returns-2 returns-3)
+size-of-spec = tie.close (tie.spec (λ c κs. search needs) (λ c. search needs) (λ c. search needs) (λ c κs. search needs) (λ c κs. search needs) returns returns-2 returns-3)

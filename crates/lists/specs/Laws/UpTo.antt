@@ -194,9 +194,6 @@ module _ (f : ℕ → Bool) (d : ℕ) where
   pub find-least : (n i : ℕ) → i < n → f i ≡ true → find f d (upTo n) ≤ i
   find-least n i h e = find-from 0 n i (omega arith) (omega arith) e
 
-  pub find-before : (n i : ℕ) → i < n → i < find f d (upTo n) → f i ≡ false
-  find-before n i h k = by-test (f i) (λ e. absurd (omega (arith, find-least n i h e))) (λ e. e)
-
   -- the first that passes is found, and d where none does
   pub find-first : (n i : ℕ) → i < n → f i ≡ true → ((j : ℕ) → j < i → f j ≡ false) → find f d (upTo n) ≡ i
   find-first n i h e before = go (ltb (find f d (upTo n)) i) refl

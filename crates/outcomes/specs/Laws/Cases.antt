@@ -31,7 +31,7 @@ cases =
     ∷ (slot (fillSlot three 1 (slot three 0)) 1, 68)
     ∷ (slot (fillSlot three 0 0) 0, 0)
     ∷ (bit (eqb (slot three 0) (slot three 0)), 1)
-    -- fetch_tests_one_frame: the frame beneath has one slot, the top two
+    -- fetch_tests_the_wrong_frames: the frame beneath has one slot, the top two
     ∷ (refusal three (fetch 0 1), 0)
     ∷ (refusal three (fetch 1 0), 9)
     -- about_of_a_slot_number, totals_of_region_1, push_accepts_nine

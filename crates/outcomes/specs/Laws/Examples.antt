@@ -11,7 +11,7 @@ use Rattle.kinds.specs.Kinds.{kindCount, sizeOf, markAt}
 use Rattle.regions.specs.Regions.{nameAt, nameOf, entryOf, parentAt, levelAt, newestAt, oldestAt, countAt}
 use Rattle.pages.specs.Pages.{pageCount, ownerAt, takenAt, isFree}
 use Rattle.objects.specs.Objects.{walk, headersTo, headersOn}
-use Rattle.outcomes.specs.History.{entries, listedRegions, listedKinds, listedFrames, listedHeld, listedFree, metOn, begin, slotsOf, pointersOf, leads, homeOf, slotsInto, wordsInto, outside, uncountedInto, storedCount, countsExact, slotsLead, wordsLead, pagesHeld}
+use Rattle.outcomes.specs.History.{entries, listedRegions, listedKinds, listedFrames, listedHeld, listedFree, metOn, begin, slotsOf, pointersOf, leads, homeOf, slotsLeadingTo, wordsLeadingTo, outside, uncountedInto, storedCount, countsExact, slotsLead, wordsLead, pagesHeld}
 use Rattle.outcomes.specs.Sound.{filled, placed, newestOwn, oldestOwn}
 use Rattle.outcomes.specs.Examples.{Example, small, examples}
 use Rattle.outcomes.specs.Laws.Decided.{clauses}
@@ -26,7 +26,7 @@ abbrev right : Example → Bool
 right e = equal eqb (failing 0 (clauses (e .memory))) (e .breaks)
 
 pub broken : every right examples ≡ true
-unfolding frameCount widthAt slotAt kindCount sizeOf markAt nameAt nameOf entryOf parentAt levelAt newestAt oldestAt countAt pageCount ownerAt takenAt isFree walk headersTo headersOn entries listedRegions listedKinds listedFrames listedHeld listedFree metOn begin slotsOf pointersOf leads homeOf slotsInto wordsInto outside uncountedInto storedCount countsExact slotsLead wordsLead pagesHeld filled placed newestOwn oldestOwn
+unfolding frameCount widthAt slotAt kindCount sizeOf markAt nameAt nameOf entryOf parentAt levelAt newestAt oldestAt countAt pageCount ownerAt takenAt isFree walk headersTo headersOn entries listedRegions listedKinds listedFrames listedHeld listedFree metOn begin slotsOf pointersOf leads homeOf slotsLeadingTo wordsLeadingTo outside uncountedInto storedCount countsExact slotsLead wordsLead pagesHeld filled placed newestOwn oldestOwn
 broken = refl
 
 -- what the accepted one lists
@@ -36,5 +36,5 @@ met = refl
 
 -- of regions 1 and 5: stored count, pointers in uncounted frames, outside pointers
 counted : map (λ r. storedCount small r ∷ uncountedInto (begin small) small r ∷ outside (begin small) small r ∷ []) (1 ∷ 5 ∷ []) ≡ (2 ∷ 0 ∷ 2 ∷ []) ∷ (2 ∷ 1 ∷ 3 ∷ []) ∷ []
-unfolding frameCount widthAt slotAt kindCount sizeOf markAt nameAt nameOf entryOf parentAt countAt pageCount ownerAt takenAt isFree walk headersTo headersOn entries listedRegions listedKinds listedFrames listedHeld listedFree metOn begin slotsOf pointersOf homeOf slotsInto wordsInto outside uncountedInto storedCount
+unfolding frameCount widthAt slotAt kindCount sizeOf markAt nameAt nameOf entryOf parentAt countAt pageCount ownerAt takenAt isFree walk headersTo headersOn entries listedRegions listedKinds listedFrames listedHeld listedFree metOn begin slotsOf pointersOf homeOf slotsLeadingTo wordsLeadingTo outside uncountedInto storedCount
 counted = refl

@@ -151,8 +151,8 @@ module _ (S : Store) (h : Ordered S) where
 
   module _ (i : ℕ) (n : nameAt (regions S) i ≢ 0) where
     pub slots-into : (f : ℕ) → f < frameCount (frames S) → ((s : ℕ) → s < widthAt (frames S) f → Known (slotAt (frames S) f s))
-        → history.slotsInto (begin S) S (nameAt (regions S) i) f ≡ slotsInto S (suc i) f
-    unfolding history.slotsInto slotsInto slotsOf begin
+        → history.slotsLeadingTo (begin S) S (nameAt (regions S) i) f ≡ slotsInto S (suc i) f
+    unfolding history.slotsLeadingTo slotsInto slotsOf begin
     slots-into f l k =
         rw (width-is S f l)
         (sum-map (λ v. bit (eqb (homeOf (begin S) v) (nameAt (regions S) i))) (slotAt (frames S) f) (upTo (widthAt (frames S) f))
@@ -160,8 +160,8 @@ module _ (S : Store) (h : Ordered S) where
 
     -- what the objects of page j add
     on-page : (j : ℕ) → j < pageCount (pages S) → (ownerAt (pages S) j ≢ 0 → All (λ q. All Known (freeWords (kinds S) (S .heap) q)) (headersOn (kinds S) (S .heap) (pages S) j))
-        → sum (λ q. history.wordsInto (begin S) S (nameAt (regions S) i) (objectAt S q)) (headersOf S j) ≡ wordsInto S (suc i) j
-    unfolding history.wordsInto wordsInto freeWordsOn nameOf
+        → sum (λ q. history.wordsLeadingTo (begin S) S (nameAt (regions S) i) (objectAt S q)) (headersOf S j) ≡ wordsInto S (suc i) j
+    unfolding history.wordsLeadingTo wordsInto freeWordsOn nameOf
     on-page j l k = by-test (eqb (ownerAt (pages S) j) 0)
         (λ z. rw (z, eqb-true (ownerAt (pages S) j) 0 z))
         (λ z.
@@ -187,9 +187,9 @@ module _ (S : Store) (h : Ordered S) where
         all false hs = sym (sum-joined (λ v. bit (eqb (ownerOf (pages S) v) (suc i))) (freeWords (kinds S) (S .heap)) hs)
 
     pub words-into : ((j : ℕ) → j < pageCount (pages S) → ownerAt (pages S) j ≢ 0 → All (λ q. All Known (freeWords (kinds S) (S .heap) q)) (headersOn (kinds S) (S .heap) (pages S) j))
-        → sum (history.wordsInto (begin S) S (nameAt (regions S) i)) ((begin S) .objects) ≡ sum (wordsInto S (suc i)) (upTo (pageCount (pages S)))
+        → sum (history.wordsLeadingTo (begin S) S (nameAt (regions S) i)) ((begin S) .objects) ≡ sum (wordsInto S (suc i)) (upTo (pageCount (pages S)))
     words-into k =
-        let f = history.wordsInto (begin S) S (nameAt (regions S) i) in
+        let f = history.wordsLeadingTo (begin S) S (nameAt (regions S) i) in
         ap (sum f) (begin-objects S)
         ∙ sum-map f (objectAt S) (headers S)
         ∙ sum-joined (λ q. f (objectAt S q)) (headersOf S) (upTo (pageCount (pages S)))

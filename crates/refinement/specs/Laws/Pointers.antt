@@ -19,7 +19,7 @@ use Rattle.model.specs.Valid.{Valid, known}
 use Rattle.model.specs.Laws.Slots.{Known, slot-known, object-valid}
 use Rattle.frames.specs.Frames.{slotAt}
 use Rattle.outcomes.specs.Store.{Store, frames, regions, pages}
-use Rattle.outcomes.specs.History.{History, Word, slotsOf, pointersOf, leads, homeOf, parentOf, slotsInto, wordsInto, uncountedInto, slotsLead, wordsLead}
+use Rattle.outcomes.specs.History.{History, Word, slotsOf, pointersOf, leads, homeOf, parentOf, slotsLeadingTo, wordsLeadingTo, uncountedInto, slotsLead, wordsLead}
 use Rattle.outcomes.specs.History as history
 use Rattle.refinement.specs.Represents.{spot, Alive, wordsIn, idsIn, FramesAgree, ObjectsAgree}
 use Rattle.refinement.specs.Laws.Reads.{by-known, spot-zero}
@@ -48,8 +48,8 @@ module _ {L : Model} {sp : List ℕ} {ids : ℕ → List ℕ} {h : History} (S :
       (all-upTo _ (length f) (λ s m. rw (onFrames .slots i s l m) (pointer-leads (getD f s 0) (slot-known L v i s)))))))
 
   module _ (r : ℕ) where
-    slots-into : (i : ℕ) → i < length (L .frames) → slotsInto h S r i ≡ sum (into (homeIn L) r) (getD (L .frames) i [])
-    unfolding slotsInto slotsOf
+    slots-into : (i : ℕ) → i < length (L .frames) → slotsLeadingTo h S r i ≡ sum (into (homeIn L) r) (getD (L .frames) i [])
+    unfolding slotsLeadingTo slotsOf
     slots-into i k =
         let f = getD (L .frames) i [] in
         rw (width-is i k)
@@ -57,11 +57,11 @@ module _ {L : Model} {sp : List ℕ} {ids : ℕ → List ℕ} {h : History} (S :
         ∙ sum-below _ (λ s. into (homeIn L) r (getD f s 0)) (length f) (λ s m. ap (λ x. bit (eqb x r)) (ap (homeOf h) (onFrames .slots i s k m) ∙ home-is t v onObjects (getD f s 0) (slot-known L v i s)))
         ∙ sum-places (into (homeIn L) r) f 0)
 
-    slots-are : sum (slotsInto h S r) (upTo (length (L .frames))) ≡ inFrames (homeIn L) r (L .frames)
+    slots-are : sum (slotsLeadingTo h S r) (upTo (length (L .frames))) ≡ inFrames (homeIn L) r (L .frames)
     unfolding inFrames
     slots-are = sum-below _ _ (length (L .frames)) slots-into ∙ sum-places (sum (into (homeIn L) r)) (L .frames) []
 
-    counted-slots : sum (slotsInto h S r) (upTo (L .counted)) ≡ inFrames (homeIn L) r (take (L .counted) (L .frames))
+    counted-slots : sum (slotsLeadingTo h S r) (upTo (L .counted)) ≡ inFrames (homeIn L) r (take (L .counted) (L .frames))
     unfolding inFrames
     counted-slots =
         let l : L .counted ≤ length (L .frames) = omega (arith, v .frames .mark) in
@@ -107,8 +107,8 @@ module _ {L : Model} {sp : List ℕ} {ids : ℕ → List ℕ} {h : History} (S :
           rw (e, rw (spot-zero onObjects x (n .1), e) at (pointer-leads x (n .1)), rw e at (f .1))))
 
   module _ (r : ℕ) where
-    words-into : (q : ℕ) → Alive L q → wordsInto h S r (met L sp q) ≡ pick (eqb (homeIn L q) r) 0 (weight L r q)
-    unfolding wordsInto
+    words-into : (q : ℕ) → Alive L q → wordsLeadingTo h S r (met L sp q) ≡ pick (eqb (homeIn L q) r) 0 (weight L r q)
+    unfolding wordsLeadingTo
     words-into q l =
         let f : Word → ℕ = λ w. bit (eqb (w .mark) 1 && eqb (homeOf h (w .value)) r) in
         let ms = marksIn L q in
@@ -129,11 +129,11 @@ module _ {L : Model} {sp : List ℕ} {ids : ℕ → List ℕ} {h : History} (S :
             rw (z, e, n .0, home-is t v onObjects (getD (wordsIn L q) w 0) (n .1)))
             (λ e. rw e (pick-same {A = ℕ} (not (eqb (getD (marksIn L q) w 0) 0)) 0))
 
-    words-are : sum (wordsInto h S r) (h .objects) ≡ words L r
+    words-are : sum (wordsLeadingTo h S r) (h .objects) ≡ words L r
     unfolding inWords fromObject
-    words-are = t .objects (wordsInto h S r) ∙ ap (λ f. sum f (idsIn L)) (fun-ext each) ∙ ids-objects L (fromObject (livesIn L) (homeIn L) (L .kinds) r)
+    words-are = t .objects (wordsLeadingTo h S r) ∙ ap (λ f. sum f (idsIn L)) (fun-ext each) ∙ ids-objects L (fromObject (livesIn L) (homeIn L) (L .kinds) r)
       where
-        each : (q : ℕ) → pick (livesIn L (homeIn L q)) (wordsInto h S r (met L sp q)) 0 ≡ fromObject (livesIn L) (homeIn L) (L .kinds) r (object (L .objects) q)
+        each : (q : ℕ) → pick (livesIn L (homeIn L q)) (wordsLeadingTo h S r (met L sp q)) 0 ≡ fromObject (livesIn L) (homeIn L) (L .kinds) r (object (L .objects) q)
         each q = by-test (livesIn L (homeIn L q)) (λ l. rw (l, words-into q l) (go (eqb (homeIn L q) r))) (λ l. rw l)
           where
             go : (b : Bool) → pick b 0 (weight L r q) ≡ pick (not b) (weight L r q) 0
@@ -150,5 +150,5 @@ module _ {L : Model} {sp : List ℕ} {ids : ℕ → List ℕ} {h : History} (S :
     unfolding uncountedInto stored outside
     uncounted-is =
         let e : min (L .counted) (length (L .frames)) ≡ L .counted = omega (arith, v .frames .mark) in
-        let c = ap₂ (λ m n. sum (λ i. pick (leb m i) (slotsInto h S r i) 0) (upTo n)) (t .counted) (frames-length t) in
-        omega (arith, c, rw (e, counted-slots r, slots-are r) at (sum-above (slotsInto h S r) (L .counted) (length (L .frames))))
+        let c = ap₂ (λ m n. sum (λ i. pick (leb m i) (slotsLeadingTo h S r i) 0) (upTo n)) (t .counted) (frames-length t) in
+        omega (arith, c, rw (e, counted-slots r, slots-are r) at (sum-above (slotsLeadingTo h S r) (L .counted) (length (L .frames))))
