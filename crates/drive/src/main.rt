@@ -1,10 +1,15 @@
 // Runs a script from standard input on a store, and prints a line for each call.
 use libc::STDIN_FILENO;
 use script::Line;
+use state::Done;
 use state::Reply;
 use state::State;
 ghost use mathlib.Core.Path.{_≡_};
-ghost use lib.ListN.{length};
+ghost use Prim.Native.Nat.{_<_};
+ghost use lib.ListN.{length, getD, drop};
+ghost use Rattle.state.specs.declared.State.{State};
+ghost use Rattle.outcomes.specs.Outcome.{store};
+ghost use Rattle.drive.specs.Scripted.{Called, Scripted, ScriptedFrom};
 
 // What a scanned line is where it is none of calls 2 to 23.
 const NOTHING: u32 = 0;
@@ -22,12 +27,13 @@ const LONGEST: usize = 1048576;
 // The words of 257 pages, one more than a store can have.
 const WORDS: usize = 16448;
 
-// How far a script has come: its store, the words lent to it, the calls so far (0 where no store is made) and the last one's reply.
-struct Reached {
-    state: State,
-    words: usize,
-    calls: u32,
-    reply: Reply,
+// The lines up to `pages`: where the next one begins, the lines so far, the bytes of output used, and the pages asked for; with no `pages` line `made` is false.
+struct Opened {
+    at: usize,
+    line: u32,
+    used: usize,
+    made: bool,
+    pages: u32,
 }
 
 // Room for the longest script, and one byte more to see that it is longer.
@@ -35,36 +41,6 @@ fn input() -> [u8; 1048577]
     ensures { λ r. ⌜ 1048577 ≡ length r ⌝ }
 {
     [0; 1048577]
-}
-
-// The first words of the heap, or all that it has.
-fn lent(heap: &mut [u32], words: usize) -> &mut [u32] {
-    if words <= heap.len() {
-        return &mut heap[0..words];
-    }
-    heap
-}
-
-// Make with n pages.
-fn made(heap: &mut [u32], n: u32) -> Reached {
-    let words = 64 * (n as usize);
-    let d = store::make(lent(heap, words));
-    let s = d.state;
-    let reply = d.reply;
-    Reached {
-        state: s,
-        words,
-        calls: 1,
-        reply,
-    }
-}
-
-// Before the first line: the state is that of a refused make.
-fn start() -> Reached {
-    let mut none = [0u32; 0];
-    let mut r = made(&mut none, 0);
-    r.calls = 0;
-    r
 }
 
 // View's reply, with the length of its part as first value: 16 at most, so that the remainder is the length.
@@ -75,17 +51,27 @@ fn with_part(s: State, heap: &[u32], slot: u32, r: Reply) -> Reply {
     q
 }
 
-// A call from 2 to 23.
-fn called(r: Reached, heap: &mut [u32], l: Line) -> Reached {
-    let s = r.state;
+// A line's third argument, which put sends: a number of 32 bits.
+fn third(l: Line) -> u32
+    ensures { λ r. ⌜ (r ≡ getD (l .args) 2 0) × (r < 4294967296) ⌝ }
+{
     let a = l.args;
+    a[2]
+}
+
+// The call that a scanned line is, on the state and the heap as they are; nothing where it is none. (The reply printed for view has the length of its part.)
+fn called(s: State, heap: &mut [u32], l: Line) -> Done
+    ensures { λ d. ⌜ Called l (store s (now (heap .entry))) (store (d .state) (now (heap .exit))) × (getD (l .args) 2 0 < 4294967296) ⌝ }
+{
+    let a = l.args;
+    let c = third(l);
     let d = store::call(
         s,
         heap,
         l.call,
         a[0],
         a[1],
-        a[2],
+        c,
         cells::part(&a, 0, l.count as usize),
     );
     let t = d.state;
@@ -93,22 +79,14 @@ fn called(r: Reached, heap: &mut [u32], l: Line) -> Reached {
     if l.call == VIEW {
         reply = with_part(t, heap, a[0], reply);
     }
-    Reached {
-        state: t,
-        words: r.words,
-        calls: std::num::wrapping_add_u32(r.calls, 1),
-        reply,
-    }
+    Done { state: t, reply }
 }
 
-// What a line of the script does.
-fn step(r: Reached, heap: &mut [u32], l: Line) -> Reached {
-    let call = l.call;
-    let a = l.args;
+// The calls so far, with this line.
+fn counted(calls: u32, call: u32) -> u32 {
     match call {
-        NOTHING | NO_CALL => r,
-        PAGES => made(heap, a[0]),
-        _ => called(r, lent(heap, r.words), l),
+        NOTHING | NO_CALL => calls,
+        _ => std::num::wrapping_add_u32(calls, 1),
     }
 }
 
@@ -121,9 +99,48 @@ fn shown(out: &mut [u8], at: usize, k: u32, call: u32, place: u32, r: Reply) -> 
     }
 }
 
-// Line by line. Gives how many bytes of the output are used and not yet written.
-fn each_line(text: &[u8], heap: &mut [u32], out: &mut [u8]) -> usize {
-    let mut r = start();
+// The lines from `from` on, with `line` lines before them, on a store that is made: a run of their calls. Gives how many bytes of the output are used and not yet written.
+fn each_line(
+    text: &[u8],
+    from: usize,
+    line: u32,
+    s: State,
+    heap: &mut [u32],
+    out: &mut [u8],
+    start: usize,
+) -> usize
+    ensures { λ _. ⌜ ((t : State) × Scripted (drop from (now (text .entry))) (store s (now (heap .entry))) (store t (now (heap .exit)))) ⌝ }
+{
+    let mut t = s;
+    let mut calls: u32 = 1;
+    let mut used = start;
+    let mut k = line;
+    let mut at = from;
+    while at < text.len() {
+        let x = script::line_at(text, at);
+        let next = at + x.len() + 1;
+        k = std::num::wrapping_add_u32(k, 1);
+        let l = script::scan(x, true);
+        let d = called(t, heap, l);
+        calls = counted(calls, l.call);
+        used = shown(out, used, k, l.call, calls, d.reply);
+        t = d.state;
+        at = next;
+    }
+    used
+}
+
+// Make with this heap, and the lines after `pages`.
+fn made(text: &[u8], o: Opened, heap: &mut [u32], out: &mut [u8]) -> usize
+    ensures { λ _. ⌜ ScriptedFrom (drop (o .at) (now (text .entry))) (now (heap .entry)) (now (heap .exit)) ⌝ }
+{
+    let d = store::make(heap);
+    let used = lines::add_line(out, o.used, 1, d.reply);
+    each_line(text, o.at, o.line, d.state, heap, out, used)
+}
+
+// The lines up to the first `pages`: none of them is a call.
+fn opening(text: &[u8], out: &mut [u8]) -> Opened {
     let mut used: usize = 0;
     let mut k: u32 = 0;
     let mut at: usize = 0;
@@ -131,13 +148,29 @@ fn each_line(text: &[u8], heap: &mut [u32], out: &mut [u8]) -> usize {
         let t = script::line_at(text, at);
         let next = at + t.len() + 1;
         k = std::num::wrapping_add_u32(k, 1);
-        let l = script::scan(t, 0 < r.calls);
-        let q = step(r, heap, l);
-        used = shown(out, used, k, l.call, q.calls, q.reply);
-        r = q;
+        let l = script::scan(t, false);
+        let a = l.args;
+        if l.call == PAGES {
+            return Opened {
+                at: next,
+                line: k,
+                used,
+                made: true,
+                pages: a[0],
+            };
+        }
+        if l.call == NO_CALL {
+            used = lines::add_bad(out, used, k);
+        }
         at = next;
     }
-    used
+    Opened {
+        at,
+        line: k,
+        used,
+        made: false,
+        pages: 0,
+    }
 }
 
 // A whole script, or `? 0` where it is too long.
@@ -145,8 +178,15 @@ fn run(text: &[u8], out: &mut [u8]) -> usize {
     if LONGEST < text.len() {
         return lines::add_bad(out, 0, 0);
     }
+    let o = opening(text, out);
     let mut heap = [0u32; WORDS];
-    each_line(text, &mut heap, out)
+    let words = 64 * (o.pages as usize);
+    if o.made {
+        if words <= WORDS {
+            return made(text, o, &mut heap[0..words], out);
+        }
+    }
+    o.used
 }
 
 fn main() {

@@ -1,9 +1,7 @@
 -- Lists of calls on one store, with their outcomes: a call starts from what the last one left, also where that was refused (document 01, The calls).
 -- Assumes nothing.
-use mathlib.Core.Path.{_≡_}
 use mathlib.Core.List.{List, [], _∷_, map}
-use Prim.Native.Nat.{ℕ, _<_}
-use Rattle.model.specs.Model.{Answer, Call, put}
+use Rattle.model.specs.Model.{Answer, Call}
 use Rattle.outcomes.specs.Store.{Store}
 use Rattle.outcomes.specs.Outcome.{Outcome}
 use Rattle.outcomes.specs.Promises.{Sent}

@@ -11,11 +11,14 @@ use Rattle.state.specs.declared.Reply.{Reply}
 use Rattle.outcomes.specs.Store.{Store}
 use Rattle.outcomes.specs.Outcome.{Outcome, answerOf}
 
--- the call numbered n, from 2 on in document 01's order, with its arguments from the left; ms are declare's marks
+-- calls 2 to 23 in document 01's order, with their arguments from the left; ms are declare's marks
+abbrev pub numbered : ℕ → ℕ → ℕ → List ℕ → List Call
+numbered a b c ms =
+    declare ms ∷ newRegion ∷ subregion a ∷ push a ∷ dropFrame ∷ handBack a b ∷ allocate a b c ∷ first a b ∷ copy a b ∷ fetch a b ∷ clear a ∷ load a b c ∷ setPointer a b c ∷ put a b c ∷ get a b ∷ view a ∷ same a b ∷ about a ∷ report a ∷ totals ∷ audit ∷ delete a ∷ []
+
+-- the call numbered n
 unfoldable pub decoded : ℕ → ℕ → ℕ → ℕ → List ℕ → Call
-decoded n a b c ms =
-    getD (declare ms ∷ newRegion ∷ subregion a ∷ push a ∷ dropFrame ∷ handBack a b ∷ allocate a b c ∷ first a b ∷ copy a b ∷ fetch a b ∷ clear a ∷ load a b c ∷ setPointer a b c ∷ put a b c ∷ get a b ∷ view a ∷ same a b ∷ about a ∷ report a ∷ totals ∷ audit ∷ delete a ∷ [])
-    (n - 2) totals
+decoded n a b c ms = getD (numbered a b c ms) (n - 2) totals
 
 -- the outcome of that call; its reply has no place for view's part, which is some list here and [] for every other call
 abbrev pub OutcomeOf : Call → Store → Reply → Store → Type 0

@@ -1,0 +1,2 @@
+-- The lines and calls of a text, computed.
+pub mod Examples

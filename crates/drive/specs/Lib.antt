@@ -1,0 +1,2 @@
+pub mod Scripted
+pub mod Laws

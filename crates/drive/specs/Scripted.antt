@@ -1,0 +1,47 @@
+-- What a script does: its lines, the calls that they are, and the run of the store that these make.
+-- Assumes nothing.
+use mathlib.Core.Path.{_≡_}
+use mathlib.Core.Bool.{true, _&&_}
+use mathlib.Core.List.{List, [], _∷_}
+use Prim.Native.Nat.{ℕ}
+use lib.Dec.{eqb, leb}
+use lib.ListN.{getD, take}
+use Rattle.lists.specs.Lists.{pick, joined}
+use Rattle.model.specs.Model.{Answer, Call}
+use Rattle.state.specs.declared.State.{State}
+use Rattle.state.specs.declared.Reply.{Reply}
+use Rattle.outcomes.specs.Store.{Store}
+use Rattle.outcomes.specs.Outcome.{MakeOutcome, store}
+use Rattle.refinement.specs.Runs.{Event, calls, Run}
+use Rattle.store.specs.Dispatch.{decoded, Dispatched}
+use Rattle.script.specs.declared.Line.{Line}
+use Rattle.script.specs.Script.{grown, scanned}
+
+-- the lines of a text, each up to its newline, the last up to the end
+unfoldable pub linesOf : List ℕ → List (List ℕ)
+linesOf [] = []
+linesOf (b ∷ l) = pick (eqb b 10) ([] ∷ linesOf l) (grown b (linesOf l))
+
+-- the call that a scanned line is, if it is one of calls 2 to 23
+unfoldable pub callsOf : Line → List Call
+callsOf l =
+    let a = l .args in
+    pick (leb 2 (l .call) && leb (l .call) 23) (decoded (l .call) (getD a 0 0) (getD a 1 0) (getD a 2 0) (take (l .count) a) ∷ []) []
+
+-- what a line does to the store: the outcome of its call, with some reply
+abbrev pub Called : Line → Store → Store → Type 0
+Called l S T =
+    let a = l .args in
+    (r : Reply) × Dispatched (l .call) (getD a 0 0) (getD a 1 0) (getD a 2 0) (take (l .count) a) S r T
+
+-- the calls of a text that comes after `pages`
+unfoldable pub scripted : List ℕ → List Call
+scripted text = joined (λ t. callsOf (scanned true t)) (linesOf text)
+
+-- the store S, state and heap, is brought to T by the calls of the text
+abbrev pub Scripted : List ℕ → Store → Store → Type 0
+Scripted text S T = (es : List Event) × Run S es T × (calls es ≡ scripted text)
+
+-- the same after a make of that heap; the state that is left is not said
+abbrev pub ScriptedFrom : List ℕ → List ℕ → List ℕ → Type 0
+ScriptedFrom text before after = (a : Answer) × (S : Store) × (t : State) × MakeOutcome before a S × Scripted text S (store t after)
