@@ -22,8 +22,8 @@ use Rattle.script.specs.Script.{front, ofClass, grown, scanned}
 use Rattle.script.specs.Found.{LineAt}
 use Rattle.drive.specs.Scripted.{linesOf, callsOf, Called, scripted}
 
-abbrev lineOf : List ℕ → List ℕ
-lineOf l = front (ofClass 2) l
+abbrev firstLine : List ℕ → List ℕ
+firstLine l = front (ofClass 2) l
 
 -- one line, and more than one
 one-line : (b : ℕ) (x : Bool) → pick x ([] ∷ []) (grown b []) ≡ pick (not x) (b ∷ []) [] ∷ linesOf (drop (length (pick (not x) (b ∷ []) []) + 1) (b ∷ []))
@@ -31,16 +31,16 @@ unfolding linesOf
 one-line b true = refl
 one-line b false = refl
 
-more-lines : (b : ℕ) (l : List ℕ) (x : Bool) → linesOf l ≡ lineOf l ∷ linesOf (drop (length (lineOf l) + 1) l)
-    → pick x ([] ∷ linesOf l) (grown b (linesOf l)) ≡ pick (not x) (b ∷ lineOf l) [] ∷ linesOf (drop (length (pick (not x) (b ∷ lineOf l) []) + 1) (b ∷ l))
+more-lines : (b : ℕ) (l : List ℕ) (x : Bool) → linesOf l ≡ firstLine l ∷ linesOf (drop (length (firstLine l) + 1) l)
+    → pick x ([] ∷ linesOf l) (grown b (linesOf l)) ≡ pick (not x) (b ∷ firstLine l) [] ∷ linesOf (drop (length (pick (not x) (b ∷ firstLine l) []) + 1) (b ∷ l))
 more-lines b l true e = refl
 more-lines b l false e =
-    let n = length (lineOf l) in
+    let n = length (firstLine l) in
     let m : suc n + 1 ≡ suc (n + 1) = omega arith in
-    ap (grown b) e ∙ ap (λ k. (b ∷ lineOf l) ∷ linesOf (drop k (b ∷ l))) (sym m)
+    ap (grown b) e ∙ ap (λ k. (b ∷ firstLine l) ∷ linesOf (drop k (b ∷ l))) (sym m)
 
 -- the first line of a text, and the rest
-lines-next : (l : List ℕ) → 0 < length l → linesOf l ≡ lineOf l ∷ linesOf (drop (length (lineOf l) + 1) l)
+lines-next : (l : List ℕ) → 0 < length l → linesOf l ≡ firstLine l ∷ linesOf (drop (length (firstLine l) + 1) l)
 unfolding linesOf ofClass
 lines-next [] h = absurd (omega arith)
 lines-next (b ∷ []) h = one-line b (eqb b 10)

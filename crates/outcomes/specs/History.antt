@@ -145,14 +145,15 @@ countsExact h S = every (λ g. eqb (storedCount S (g .name) + uncountedInto h S 
 unfoldable pub slotsLead : History → Store → Bool
 slotsLead h S = every (λ i. every (λ v. eqb v 0 || leads h v) (slotsOf h S i)) (upTo (length (h .frames)))
 
--- so does every pointer word, and to one that its mark allows
+-- every pointer word too is null or leads to a live object, and to one that its mark allows
 unfoldable pub wordsLead : History → Store → Bool
 wordsLead h S =
     every (λ o. every (λ w. eqb (w .value) 0 || (leads h (w .value) && rule (w .mark) (homeOf h (w .value)) (o .home) (parentOf h (o .home)))) (pointersOf h S o)) (h .objects)
 
--- every page made is in one list only, once: free, or held, and then by a region that lives
+-- the regions that hold page j
 abbrev pub holders : History → ℕ → List ℕ
 holders h j = map (λ t. t .region) (keep (λ t. eqb (t .page) j) (h .held))
 
+-- every page made is in one list only, once: free, or held, and then by a region that lives
 unfoldable pub pagesHeld : History → Bool
 pagesHeld h = every (λ j. eqb (times j (h .free) + length (holders h j)) 1 && every (isLive h) (holders h j)) (upTo (h .pages))

@@ -54,7 +54,7 @@ pub record Sound (S : Store) : Type 0 where
   pub widths : every (within 1 8) (listedFrames S) ≡ true
   pub levels : every (λ i. leb (levelAt (regions S) i) 16) (entries S) ≡ true
   pub given : leb ((regions S) .given) 1000000 ≡ true
-  -- m: the top frame is not counted
+  -- m is at most the number of frames below the top one, and so 0 where no frame stands
   pub counted : leb ((frames S) .counted) ((frames S) .standing - 1) ≡ true
   -- the length that was made
   pub heapLength : eqb (length (S .heap)) (64 * (pages S) .made) ≡ true
@@ -62,9 +62,9 @@ pub record Sound (S : Store) : Type 0 where
   pub distinct : every (λ i. eqb (times (nameAt (regions S) i) (map (nameAt (regions S)) (entries S))) 1) (entries S) ≡ true
   pub past : every (λ i. leb (nameAt (regions S) i) ((regions S) .given)) (entries S) ≡ true
   pub one : among 1 (map (nameAt (regions S)) (entries S)) ≡ true
-  -- the tree: see `placed`
+  -- the tree of regions: `placed`, of each
   pub parents : every (placed S) (entries S) ≡ true
-  -- no gap on a held page: see `filled`
+  -- no gap on a held page: `filled`, of each
   pub filling : every (filled S) (listedHeld S) ≡ true
   -- newest pages and oldest objects belong to their regions
   pub newest : every (newestOwn S) (entries S) ≡ true

@@ -45,7 +45,8 @@ cases =
     -- hand_back_before_drop, hand_back_of_another_slot
     ∷ (slotAt (frames (fillSlot (popFrame three) 0 (slot three 0))) 1 0, 68)
     ∷ (slotAt (frames (fillSlot (popFrame three) 0 (slot three 1))) 1 0, 0)
-    -- set pointer: the old pointer leaves, one into the own region is not counted, a word marked 3 never is
+    -- set pointer: the word is written, the old pointer leaves, one into the own region is not counted, a word marked 3 never is
+    ∷ (wordAt (pointed small 65 0 68 .heap) 65 0, 68)
     ∷ (countAt (regions (pointed small 65 0 68)) 0, 1)
     ∷ (countAt (regions (pointed small 65 0 68)) 2, 2)
     ∷ (countAt (regions (pointed small 68 1 1)) 0, 2)
