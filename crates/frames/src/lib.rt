@@ -1,8 +1,9 @@
-// The stack of frames, a part of the state held by value.
+// The stack of frames, a part of the state held by value. The functions take what they read: numbers, and arrays lent.
 ghost use mathlib.Core.Path.{_≡_};
-ghost use lib.Dec.{leb};
-ghost use Rattle.lists.specs.Lists.{pick};
-ghost use Rattle.frames.specs.Frames.{frameCount, topFrame, widthAt, slotAt, putSlot, pushed, uncounts, popped, raised};
+ghost use Prim.Native.Nat.{_+_, _*_};
+ghost use lib.ListN.{set, replicate};
+ghost use lib.Seq.{sets};
+ghost use Rattle.frames.specs.Frames.{frameCountIn, topIn, widthIn, slotIn, uncountsIn, countedAfter};
 
 // Frame 0 is the lowest. Slot s of frame i stands at 8 * i + s. `counted` is document 01's m: the lowest `counted` frames are counted.
 pub struct Frames {
@@ -12,83 +13,63 @@ pub struct Frames {
     pub slots: [u32; 256],
 }
 
-pub fn frame_count(f: Frames) -> u32
-    ensures { λ r. ⌜ r ≡ frameCount f ⌝ }
+pub fn frame_count(standing: u32) -> u32
+    ensures { λ r. ⌜ r ≡ frameCountIn standing ⌝ }
 {
-    cells::least(f.standing, 32)
+    cells::least(standing, 32)
 }
 
-pub fn top(f: Frames) -> u32
-    ensures { λ r. ⌜ r ≡ topFrame f ⌝ }
+pub fn top(standing: u32) -> u32
+    ensures { λ r. ⌜ r ≡ topIn standing ⌝ }
 {
-    cells::less(f.standing)
+    cells::less(standing)
 }
 
-pub fn width_at(f: Frames, i: u32) -> u32
-    ensures { λ r. ⌜ r ≡ widthAt f i ⌝ }
+pub fn width_at(widths: &[u8], i: u32) -> u32
+    ensures { λ r. ⌜ r ≡ widthIn (now (widths .entry)) i ⌝ }
 {
-    cells::byte(&f.widths, i as usize)
+    cells::byte(widths, i as usize)
 }
 
-pub fn slot_at(f: Frames, i: u32, s: u32) -> u32
-    ensures { λ r. ⌜ r ≡ slotAt f i s ⌝ }
+pub fn slot_at(slots: &[u32], i: u32, s: u32) -> u32
+    ensures { λ r. ⌜ r ≡ slotIn (now (slots .entry)) i s ⌝ }
 {
-    cells::word(&f.slots, 8 * (i as usize) + (s as usize))
+    cells::word(slots, 8 * (i as usize) + (s as usize))
 }
 
-pub fn put_slot(f: Frames, i: u32, s: u32, v: u32) -> Frames
-    ensures { λ r. ⌜ r ≡ putSlot f i s v ⌝ }
+pub fn put_slot(slots: &mut [u32; 256], i: u32, s: u32, v: u32)
+    ensures { λ _. ⌜ now (slots .exit) ≡ set (now (slots .entry)) (8 * i + s) v ⌝ }
 {
-    let mut a = f.slots;
-    cells::store(&mut a, 8 * (i as usize) + (s as usize), v);
-    let mut g = f;
-    g.slots = a;
-    g
+    cells::store(slots, 8 * (i as usize) + (s as usize), v);
 }
 
-// No frame is pushed where 32 stand.
-pub fn push(f: Frames, width: u8) -> Frames
-    ensures { λ r. ⌜ r ≡ pick (leb 32 (f .standing)) f (pushed f width) ⌝ }
+// All eight places of frame i are null.
+pub fn null_frame(slots: &mut [u32; 256], i: u32)
+    ensures { λ _. ⌜ now (slots .exit) ≡ sets (now (slots .entry)) (8 * i) (replicate 8 0) ⌝ }
 {
-    let n = f.standing;
-    if 32 <= n {
-        return f;
+    cells::zero(slots, 8 * (i as usize), 8);
+}
+
+pub fn put_width(widths: &mut [u8; 32], i: u32, w: u8)
+    ensures { λ _. ⌜ now (widths .exit) ≡ set (now (widths .entry)) i w ⌝ }
+{
+    cells::store_byte(widths, i as usize, w);
+}
+
+// Whether the frame on top once a frame has gone was counted.
+pub fn uncounts(standing: u32, counted: u32) -> bool
+    ensures { λ r. ⌜ r ≡ uncountsIn standing counted ⌝ }
+{
+    let t = top(standing);
+    if 0 < t { t <= counted } else { false }
+}
+
+// m once a frame has gone.
+pub fn counted_after(standing: u32, counted: u32) -> u32
+    ensures { λ r. ⌜ r ≡ countedAfter standing counted ⌝ }
+{
+    if uncounts(standing, counted) {
+        return cells::less(counted);
     }
-    let w = f.widths;
-    let v = cells::put32_byte(w, n as usize, width);
-    let mut s = f.slots;
-    cells::zero(&mut s, 8 * (n as usize), 8);
-    Frames {
-        standing: n + 1,
-        counted: f.counted,
-        widths: v,
-        slots: s,
-    }
-}
-
-pub fn uncounts(f: Frames) -> bool
-    ensures { λ r. ⌜ r ≡ uncounts f ⌝ }
-{
-    let t = top(f);
-    if 0 < t { t <= f.counted } else { false }
-}
-
-pub fn pop(f: Frames) -> Frames
-    ensures { λ r. ⌜ r ≡ popped f ⌝ }
-{
-    let u = uncounts(f);
-    let mut g = f;
-    g.standing = top(f);
-    if u {
-        g.counted = cells::less(f.counted);
-    }
-    g
-}
-
-pub fn raise(f: Frames) -> Frames
-    ensures { λ r. ⌜ r ≡ raised f ⌝ }
-{
-    let mut g = f;
-    g.counted = top(f);
-    g
+    counted
 }

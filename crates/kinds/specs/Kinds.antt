@@ -1,4 +1,5 @@
 -- The kinds as the state keeps them (document 01, The store). Every reading is total: a kind that was not declared has no words, and a mark past the end of the array reads 0.
+-- A name that ends in `In` is a reading by the numbers and lists alone that it takes, for code that is lent these; the reading of the whole is said by it.
 -- Assumes nothing.
 use mathlib.Core.Bool.{Bool, _&&_, _||_}
 use mathlib.Core.List.{List}
@@ -10,16 +11,29 @@ use Rattle.lists.specs.Lists.{pick, any, every, upTo}
 use Rattle.kinds.specs.declared.Kinds.{Kinds}
 
 -- the kinds listed, of which the state has room for 16
+abbrev pub kindCountIn : ℕ → ℕ
+kindCountIn declared = min declared 16
+
 unfoldable pub kindCount : Kinds → ℕ
-kindCount k = min (k .declared) 16
+kindCount k = kindCountIn (k .declared)
+
+-- the kinds with these parts
+abbrev pub kindsOf : ℕ → List ℕ → List ℕ → Kinds
+kindsOf declared sizes marks = record { declared = declared; sizes = sizes; marks = marks }
 
 -- how many words an object of kind n has, of which the state has room for 16 marks; 0 where there is no such kind
+unfoldable pub sizeIn : ℕ → List ℕ → ℕ → ℕ
+sizeIn declared sizes n = pick (ltb 0 n && leb n (kindCountIn declared)) (min (getD sizes (n - 1) 0) 16) 0
+
 unfoldable pub sizeOf : Kinds → ℕ → ℕ
-sizeOf k n = pick (ltb 0 n && leb n (kindCount k)) (min (getD (k .sizes) (n - 1) 0) 16) 0
+sizeOf k n = sizeIn (k .declared) (k .sizes) n
 
 -- the mark of word w of kind n, for a kind declared and a word that it has; else what stands there
+abbrev pub markIn : List ℕ → ℕ → ℕ → ℕ
+markIn marks n w = getD marks (16 * (n - 1) + w) 0
+
 unfoldable pub markAt : Kinds → ℕ → ℕ → ℕ
-markAt k n w = getD (k .marks) (16 * (n - 1) + w) 0
+markAt k n w = markIn (k .marks) n w
 
 -- one kind more, with the marks ms (document 01, Declare)
 unfoldable pub withKind : Kinds → List ℕ → Kinds
@@ -30,5 +44,8 @@ unfoldable pub wrongMarks : List ℕ → Bool
 wrongMarks ms = eqb (length ms) 0 || ltb 16 (length ms) || any (ltb 4) ms
 
 -- every word of kind n is data
+unfoldable pub allDataIn : ℕ → List ℕ → List ℕ → ℕ → Bool
+allDataIn declared sizes marks n = every (λ w. eqb (markIn marks n w) 0) (upTo (sizeIn declared sizes n))
+
 unfoldable pub allData : Kinds → ℕ → Bool
-allData k n = every (λ w. eqb (markAt k n w) 0) (upTo (sizeOf k n))
+allData k n = allDataIn (k .declared) (k .sizes) (k .marks) n

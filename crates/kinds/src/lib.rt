@@ -1,14 +1,13 @@
-// The kinds declared, a part of the state held by value.
+// The kinds declared, a part of the state held by value. The functions take what they read: numbers, and arrays lent.
 ghost use mathlib.Core.Path.{_≡_};
-ghost use mathlib.Core.Bool.{_||_};
 ghost use mathlib.Core.List.{map};
-ghost use Prim.Native.Nat.{_+_, _-_, _*_, _%_};
-ghost use lib.Dec.{eqb, ltb, leb};
-ghost use lib.ListN.{getD};
+ghost use Prim.Native.Nat.{_%_};
+ghost use lib.Dec.{eqb, ltb};
+ghost use lib.ListN.{set};
 ghost use lib.Seq.{sets};
-ghost use Rattle.lists.specs.Lists.{pick, any, every, upTo};
+ghost use Rattle.lists.specs.Lists.{any, every, upTo};
 ghost use Rattle.model.specs.Model.{rule};
-ghost use Rattle.kinds.specs.Kinds.{kindCount, sizeOf, markAt, withKind, wrongMarks, allData};
+ghost use Rattle.kinds.specs.Kinds.{kindCountIn, sizeIn, markIn, wrongMarks, allDataIn};
 
 // Kind k, from 1 on, has sizes[k - 1] words; the mark of its word w stands at 16 * (k - 1) + w.
 pub struct Kinds {
@@ -17,27 +16,27 @@ pub struct Kinds {
     pub marks: [u8; 256],
 }
 
-pub fn kind_count(k: Kinds) -> u32
-    ensures { λ r. ⌜ r ≡ kindCount k ⌝ }
+pub fn kind_count(declared: u32) -> u32
+    ensures { λ r. ⌜ r ≡ kindCountIn declared ⌝ }
 {
-    cells::least(k.declared, 16)
+    cells::least(declared, 16)
 }
 
-pub fn size_of(k: Kinds, n: u32) -> u32
-    ensures { λ r. ⌜ r ≡ sizeOf k n ⌝ }
+pub fn size_of(declared: u32, sizes: &[u8], n: u32) -> u32
+    ensures { λ r. ⌜ r ≡ sizeIn declared (now (sizes .entry)) n ⌝ }
 {
     if 0 < n {
-        if n <= kind_count(k) {
-            return cells::least(cells::byte(&k.sizes, (n - 1) as usize), 16);
+        if n <= kind_count(declared) {
+            return cells::least(cells::byte(sizes, (n - 1) as usize), 16);
         }
     }
     0
 }
 
-pub fn mark_at(k: Kinds, n: u32, w: u32) -> u32
-    ensures { λ r. ⌜ r ≡ markAt k n w ⌝ }
+pub fn mark_at(marks: &[u8], n: u32, w: u32) -> u32
+    ensures { λ r. ⌜ r ≡ markIn (now (marks .entry)) n w ⌝ }
 {
-    cells::byte(&k.marks, 16 * (cells::less(n) as usize) + (w as usize))
+    cells::byte(marks, 16 * (cells::less(n) as usize) + (w as usize))
 }
 
 // Whether a mark is above 4.
@@ -67,43 +66,25 @@ pub fn marks_wrong(ms: &[u32]) -> bool
 }
 
 // The marks from place `at` on replaced by the lowest bytes of ms.
-fn with_marks(marks: [u8; 256], at: u32, ms: &[u32]) -> [u8; 256]
-    ensures { λ r. ⌜ r ≡ sets marks at (map (λ m. m % 256) (now (ms .entry))) ⌝ }
+pub fn put_marks(marks: &mut [u8; 256], at: u32, ms: &[u32])
+    ensures { λ _. ⌜ now (marks .exit) ≡ sets (now (marks .entry)) at (map (λ m. m % 256) (now (ms .entry))) ⌝ }
 {
-    let mut a = marks;
     let mut i = 0;
     while i < ms.len() {
-        cells::store_byte(&mut a, (at as usize) + i, (ms[i] % 256) as u8);
+        cells::store_byte(marks, (at as usize) + i, (ms[i] % 256) as u8);
         i += 1;
     }
-    a
 }
 
-// No kind is added with wrong marks, or where 16 stand.
-pub fn with_kind(k: Kinds, ms: &[u32]) -> Kinds
-    ensures { λ r. ⌜ r ≡ pick (wrongMarks (now (ms .entry)) || leb 16 (k .declared)) k (withKind k (now (ms .entry))) ⌝ }
+pub fn put_size(sizes: &mut [u8; 16], i: u32, n: u8)
+    ensures { λ _. ⌜ now (sizes .exit) ≡ set (now (sizes .entry)) i n ⌝ }
 {
-    if marks_wrong(ms) {
-        return k;
-    }
-    let n = k.declared;
-    if 16 <= n {
-        return k;
-    }
-    let s = k.sizes;
-    let m = k.marks;
-    let t = cells::put16_byte(s, n as usize, ms.len() as u8);
-    let a = with_marks(m, 16 * n, ms);
-    Kinds {
-        declared: n + 1,
-        sizes: t,
-        marks: a,
-    }
+    cells::store_byte(sizes, i as usize, n);
 }
 
 // Whether the first `size` marks of kind n are 0.
 fn all_zero(marks: &[u8], n: u32, size: u32) -> bool
-    ensures { λ r. ⌜ r ≡ every (λ w. eqb (getD (now (marks .entry)) (16 * (n - 1) + w) 0) 0) (upTo size) ⌝ }
+    ensures { λ r. ⌜ r ≡ every (λ w. eqb (markIn (now (marks .entry)) n w) 0) (upTo size) ⌝ }
 {
     let at = 16 * (cells::less(n) as usize);
     let mut w: u32 = 0;
@@ -116,11 +97,11 @@ fn all_zero(marks: &[u8], n: u32, size: u32) -> bool
     true
 }
 
-pub fn all_data(k: Kinds, n: u32) -> bool
-    ensures { λ r. ⌜ r ≡ allData k n ⌝ }
+pub fn all_data<'a>(declared: u32, sizes: &'a [u8], marks: &'a [u8], n: u32) -> bool
+    ensures { λ r. ⌜ r ≡ allDataIn declared (now (sizes .entry)) (now (marks .entry)) n ⌝ }
 {
-    let size = size_of(k, n);
-    all_zero(&k.marks, n, size)
+    let size = size_of(declared, sizes, n);
+    all_zero(marks, n, size)
 }
 
 // Whether a word marked k, of an object of the region named h below the region named u, may lead into the region named t.

@@ -1,6 +1,7 @@
-// The pages of the heap, a part of the state held by value.
+// The pages of the heap, a part of the state held by value. The functions take what they read: numbers, and arrays lent.
 ghost use mathlib.Core.Path.{_≡_};
-ghost use Rattle.pages.specs.Pages.{wrongLength, pageCount, ownerAt, takenAt, ownerIn, firstFree, pagesOf, withTaken, freePage};
+ghost use lib.ListN.{getD, set};
+ghost use Rattle.pages.specs.Pages.{wrongLengthIn, pageCountIn, takenIn, ownerIn, firstFreeIn, pagesIn};
 
 // owners: the tag of the region that holds the page (its entry plus 1), 0 for a free page. taken: how many words of the page objects fill.
 pub struct Pages {
@@ -10,31 +11,31 @@ pub struct Pages {
 }
 
 // Whether a heap of n words is not the one made.
-pub fn wrong_length(p: Pages, n: usize) -> bool
-    ensures { λ r. ⌜ r ≡ wrongLength p n ⌝ }
+pub fn wrong_length(made: u32, n: usize) -> bool
+    ensures { λ r. ⌜ r ≡ wrongLengthIn made n ⌝ }
 {
-    if p.made == 0 {
+    if made == 0 {
         return true;
     }
-    n != 64 * (p.made as usize)
+    n != 64 * (made as usize)
 }
 
-pub fn page_count(p: Pages) -> u32
-    ensures { λ r. ⌜ r ≡ pageCount p ⌝ }
+pub fn page_count(made: u32) -> u32
+    ensures { λ r. ⌜ r ≡ pageCountIn made ⌝ }
 {
-    cells::least(p.made, 256)
+    cells::least(made, 256)
 }
 
-pub fn owner_at(p: Pages, j: u32) -> u32
-    ensures { λ r. ⌜ r ≡ ownerAt p j ⌝ }
+pub fn owner_at(owners: &[u8], j: u32) -> u32
+    ensures { λ r. ⌜ r ≡ getD (now (owners .entry)) j 0 ⌝ }
 {
-    cells::byte(&p.owners, j as usize)
+    cells::byte(owners, j as usize)
 }
 
-pub fn taken_at(p: Pages, j: u32) -> u32
-    ensures { λ r. ⌜ r ≡ takenAt p j ⌝ }
+pub fn taken_at(taken: &[u8], j: u32) -> u32
+    ensures { λ r. ⌜ r ≡ takenIn (now (taken .entry)) j ⌝ }
 {
-    cells::least(cells::byte(&p.taken, j as usize), 64)
+    cells::least(cells::byte(taken, j as usize), 64)
 }
 
 // The tag of the region that a pointer leads into.
@@ -48,21 +49,21 @@ pub fn owner_of(owners: &[u8], v: u32) -> u32
 }
 
 // How many pages the region with that tag holds; for 0, how many are free.
-pub fn pages_of(p: Pages, t: u32) -> u32
-    ensures { λ r. ⌜ r ≡ pagesOf p t ⌝ }
+pub fn pages_of(made: u32, owners: &[u8], t: u32) -> u32
+    ensures { λ r. ⌜ r ≡ pagesIn made (now (owners .entry)) t ⌝ }
 {
-    let n = page_count(p);
-    cells::count_byte(&p.owners, n, t)
+    let n = page_count(made);
+    cells::count_byte(owners, n, t)
 }
 
 // The lowest free page, the number of pages where none is free.
-pub fn find_free(p: Pages) -> u32
-    ensures { λ r. ⌜ r ≡ firstFree p ⌝ }
+pub fn find_free(made: u32, owners: &[u8]) -> u32
+    ensures { λ r. ⌜ r ≡ firstFreeIn made (now (owners .entry)) ⌝ }
 {
-    let n = page_count(p);
+    let n = page_count(made);
     let mut j: u32 = 0;
     while j < n {
-        if owner_at(p, j) == 0 {
+        if owner_at(owners, j) == 0 {
             return j;
         }
         j += 1;
@@ -70,25 +71,9 @@ pub fn find_free(p: Pages) -> u32
     j
 }
 
-pub fn with_taken(p: Pages, j: u32, t: u8, n: u8) -> Pages
-    ensures { λ r. ⌜ r ≡ withTaken p j t n ⌝ }
+// Page j gets an owner, or a number of words taken.
+pub fn put_byte(a: &mut [u8; 256], j: u32, v: u8)
+    ensures { λ _. ⌜ now (a .exit) ≡ set (now (a .entry)) j v ⌝ }
 {
-    let a = p.owners;
-    let b = cells::put256_byte(a, j as usize, t);
-    let d = p.taken;
-    let e = cells::put256_byte(d, j as usize, n);
-    let mut q = p;
-    q.owners = b;
-    q.taken = e;
-    q
-}
-
-pub fn free_page(p: Pages, j: u32) -> Pages
-    ensures { λ r. ⌜ r ≡ freePage p j ⌝ }
-{
-    let a = p.owners;
-    let b = cells::put256_byte(a, j as usize, 0);
-    let mut q = p;
-    q.owners = b;
-    q
+    cells::store_byte(a, j as usize, v);
 }

@@ -4,3 +4,5 @@ pub mod Counts
 pub mod Named
 pub mod Added
 pub mod Removed
+pub mod Steps
+pub mod Recount

@@ -1,8 +1,10 @@
-// The region entries, a part of the state held by value.
+// The region entries, a part of the state held by value. The functions take what they read: numbers, and arrays lent.
 ghost use mathlib.Core.Path.{_≡_};
-ghost use mathlib.Core.List.{[], _∷_};
-ghost use Prim.Native.Nat.{_+_, _%_, _<_};
-ghost use Rattle.regions.specs.Regions.{nameAt, nameOf, entryOf, unused, liveCount, parentAt, subregionsOf, levelAt, newestAt, oldestAt, countAt, withRegion, withoutRegion, withPage, withCounts, moved};
+ghost use Prim.Native.Nat.{_+_, _%_};
+ghost use lib.ListN.{getD, set};
+ghost use Rattle.regions.specs.Regions.{nameIn, entryIn, unusedIn, liveIn, subregionsIn};
+ghost use Rattle.regions.specs.Laws.Counts.{Counts};
+ghost use Rattle.regions.specs.Laws.Steps.{entering, leaving};
 
 // names: 0 for an entry not in use. parents: the entry above plus 1, 0 for none. newest: a page plus 1, 0 for none.
 // oldest: a pointer, 0 for none. `given` is the last name given.
@@ -16,60 +18,60 @@ pub struct Regions {
     pub oldest: [u32; 64],
 }
 
-pub fn name_at(r: Regions, i: u32) -> u32
-    ensures { λ n. ⌜ n ≡ nameAt r i ⌝ }
+pub fn name_at(names: &[u32], i: u32) -> u32
+    ensures { λ n. ⌜ n ≡ getD (now (names .entry)) i 0 ⌝ }
 {
-    cells::word(&r.names, i as usize)
+    cells::word(names, i as usize)
 }
 
 // The name of the region with that tag, 0 for none.
-pub fn name_of(r: Regions, t: u32) -> u32
-    ensures { λ n. ⌜ n ≡ nameOf r t ⌝ }
+pub fn name_of(names: &[u32], t: u32) -> u32
+    ensures { λ n. ⌜ n ≡ nameIn (now (names .entry)) t ⌝ }
 {
     if t == 0 {
         return 0;
     }
-    name_at(r, t - 1)
+    name_at(names, t - 1)
 }
 
 // The entry of the live region of that name, 64 where there is none.
-pub fn entry_of(r: Regions, n: u32) -> u32
-    ensures { λ i. ⌜ i ≡ entryOf r n ⌝ }
+pub fn entry_of(names: &[u32], n: u32) -> u32
+    ensures { λ i. ⌜ i ≡ entryIn (now (names .entry)) n ⌝ }
 {
     if n == 0 {
         return 64;
     }
-    cells::find(&r.names, 64, n)
+    cells::find(names, 64, n)
 }
 
 // The first entry that is not in use, 64 where all are.
-pub fn unused(r: Regions) -> u32
-    ensures { λ i. ⌜ i ≡ unused r ⌝ }
+pub fn unused(names: &[u32]) -> u32
+    ensures { λ i. ⌜ i ≡ unusedIn (now (names .entry)) ⌝ }
 {
-    cells::find(&r.names, 64, 0)
+    cells::find(names, 64, 0)
 }
 
-pub fn live_count(r: Regions) -> u32
-    ensures { λ n. ⌜ n ≡ liveCount r ⌝ }
+pub fn live_count(names: &[u32]) -> u32
+    ensures { λ n. ⌜ n ≡ liveIn (now (names .entry)) ⌝ }
 {
-    64 - cells::count(&r.names, 64, 0)
+    64 - cells::count(names, 64, 0)
 }
 
-pub fn parent_at(r: Regions, i: u32) -> u32
-    ensures { λ n. ⌜ n ≡ parentAt r i ⌝ }
+pub fn parent_at(parents: &[u8], i: u32) -> u32
+    ensures { λ n. ⌜ n ≡ getD (now (parents .entry)) i 0 ⌝ }
 {
-    cells::byte(&r.parents, i as usize)
+    cells::byte(parents, i as usize)
 }
 
 // How many live regions are right below the one with that tag.
-pub fn subregions_of(r: Regions, t: u32) -> u32
-    ensures { λ n. ⌜ n ≡ subregionsOf r t ⌝ }
+pub fn subregions_of<'a>(names: &'a [u32], parents: &'a [u8], t: u32) -> u32
+    ensures { λ n. ⌜ n ≡ subregionsIn (now (names .entry)) (now (parents .entry)) t ⌝ }
 {
     let mut k: u32 = 0;
     let mut i: u32 = 0;
     while i < 64 {
-        if name_at(r, i) != 0 {
-            if parent_at(r, i) == t {
+        if name_at(names, i) != 0 {
+            if parent_at(parents, i) == t {
                 k += 1;
             }
         }
@@ -78,83 +80,53 @@ pub fn subregions_of(r: Regions, t: u32) -> u32
     k
 }
 
-pub fn level_at(r: Regions, i: u32) -> u32
-    ensures { λ n. ⌜ n ≡ levelAt r i ⌝ }
+pub fn level_at(levels: &[u8], i: u32) -> u32
+    ensures { λ n. ⌜ n ≡ getD (now (levels .entry)) i 0 ⌝ }
 {
-    cells::byte(&r.levels, i as usize)
+    cells::byte(levels, i as usize)
 }
 
-pub fn newest_at(r: Regions, i: u32) -> u32
-    ensures { λ n. ⌜ n ≡ newestAt r i ⌝ }
+pub fn newest_at(newest: &[u16], i: u32) -> u32
+    ensures { λ n. ⌜ n ≡ getD (now (newest .entry)) i 0 ⌝ }
 {
-    cells::half(&r.newest, i as usize)
+    cells::half(newest, i as usize)
 }
 
-pub fn oldest_at(r: Regions, i: u32) -> u32
-    ensures { λ n. ⌜ n ≡ oldestAt r i ⌝ }
+pub fn oldest_at(oldest: &[u32], i: u32) -> u32
+    ensures { λ n. ⌜ n ≡ getD (now (oldest .entry)) i 0 ⌝ }
 {
-    cells::word(&r.oldest, i as usize)
+    cells::word(oldest, i as usize)
 }
 
-pub fn count_at(r: Regions, i: u32) -> u32
-    ensures { λ n. ⌜ n ≡ countAt r i ⌝ }
+pub fn count_at(counts: &[u32], i: u32) -> u32
+    ensures { λ n. ⌜ n ≡ getD (now (counts .entry)) i 0 ⌝ }
 {
-    cells::word(&r.counts, i as usize)
+    cells::word(counts, i as usize)
 }
 
-// A region under the next name at entry i. `given + 1` does not wrap where `given` is below the last name that can be given.
-pub fn with_region(r: Regions, i: u32, t: u8, l: u8) -> Regions
-    ensures { λ s. ⌜ (r .given < 4294967295 → s ≡ withRegion r i t l) ⌝ }
+// Entry i of one of the arrays gets v.
+pub fn put_word(a: &mut [u32; 64], i: u32, v: u32)
+    ensures { λ _. ⌜ now (a .exit) ≡ set (now (a .entry)) i v ⌝ }
 {
-    let at = i as usize;
-    let name = std::num::wrapping_add_u32(r.given, 1);
-    let names = r.names;
-    let parents = r.parents;
-    let levels = r.levels;
-    let counts = r.counts;
-    let newest = r.newest;
-    let oldest = r.oldest;
-    Regions {
-        given: name,
-        names: cells::put64(names, at, name),
-        parents: cells::put64_byte(parents, at, t),
-        levels: cells::put64_byte(levels, at, l),
-        counts: cells::put64(counts, at, 0),
-        newest: cells::put64_half(newest, at, 0),
-        oldest: cells::put64(oldest, at, 0),
-    }
+    cells::store(a, i as usize, v);
 }
 
-pub fn without_region(r: Regions, i: u32) -> Regions
-    ensures { λ s. ⌜ s ≡ withoutRegion r i ⌝ }
+pub fn put_half(a: &mut [u16; 64], i: u32, v: u16)
+    ensures { λ _. ⌜ now (a .exit) ≡ set (now (a .entry)) i v ⌝ }
 {
-    let a = r.names;
-    let b = cells::put64(a, i as usize, 0);
-    let mut s = r;
-    s.names = b;
-    s
+    cells::store_half(a, i as usize, v);
 }
 
-pub fn with_page(r: Regions, i: u32, p: u16, v: u32) -> Regions
-    ensures { λ s. ⌜ s ≡ withPage r i p v ⌝ }
+pub fn put_byte(a: &mut [u8; 64], i: u32, v: u8)
+    ensures { λ _. ⌜ now (a .exit) ≡ set (now (a .entry)) i v ⌝ }
 {
-    let a = r.newest;
-    let b = cells::put64_half(a, i as usize, p);
-    let d = r.oldest;
-    let e = cells::put64(d, i as usize, v);
-    let mut s = r;
-    s.newest = b;
-    s.oldest = e;
-    s
+    cells::store_byte(a, i as usize, v);
 }
 
-pub fn with_counts(r: Regions, cs: [u32; 64]) -> Regions
-    ensures { λ s. ⌜ s ≡ withCounts r cs ⌝ }
-{
-    let mut s = r;
-    s.counts = cs;
-    s
-}
+// What the types say of the counts. It does nothing: its contract is what it is for.
+pub fn counts_shaped(r: Regions)
+    ensures { λ _. ⌜ Counts (r .counts) ⌝ }
+{}
 
 // A count with one more and with one less, modulo 2^32.
 fn up(x: u32) -> u32
@@ -170,22 +142,24 @@ fn down(x: u32) -> u32
 }
 
 // The counts with one pointer more, and one less, into the region with that tag.
-pub fn enter(counts: [u32; 64], tag: u32) -> [u32; 64]
-    ensures { λ r. ⌜ r ≡ moved counts (tag ∷ []) [] ⌝ }
+pub fn enter(counts: &mut [u32], tag: u32)
+    ensures { λ _. ⌜ now (counts .exit) ≡ entering (now (counts .entry)) tag ⌝ }
 {
     if tag == 0 {
-        return counts;
+        return;
     }
     let i = (tag - 1) as usize;
-    cells::put64(counts, i, up(cells::word(&counts, i)))
+    let v = up(cells::word(counts, i));
+    cells::store(counts, i, v);
 }
 
-pub fn leave(counts: [u32; 64], tag: u32) -> [u32; 64]
-    ensures { λ r. ⌜ r ≡ moved counts [] (tag ∷ []) ⌝ }
+pub fn leave(counts: &mut [u32], tag: u32)
+    ensures { λ _. ⌜ now (counts .exit) ≡ leaving (now (counts .entry)) tag ⌝ }
 {
     if tag == 0 {
-        return counts;
+        return;
     }
     let i = (tag - 1) as usize;
-    cells::put64(counts, i, down(cells::word(&counts, i)))
+    let v = down(cells::word(counts, i));
+    cells::store(counts, i, v);
 }

@@ -14,7 +14,7 @@ use Rattle.lists.specs.Laws.UpTo.{count-next, length-upTo}
 use Rattle.regions.specs.Regions.{moved}
 use Rattle.regions.specs.Laws.Counts.{fits-counts, moved-none}
 use Rattle.pages.specs.declared.Pages.{Pages}
-use Rattle.pages.specs.Pages.{pageCount, ownerAt, pagesOf}
+use Rattle.pages.specs.Pages.{pageCount, ownerAt, pagesOf, pagesIn}
 use Rattle.pages.specs.Laws.Freed.{freedTo, freed-none, freed-all, freed-later, freed-other, freed-own}
 use Rattle.objects.specs.Objects.{outOf}
 use Rattle.calls_delete.specs.Delete.{ownWordsTo, ownWords}
@@ -81,7 +81,7 @@ loop-again c =
     )
 
 returns : tie.Need-returns Inv-loop μ-loop
-unfolding ownWords pagesOf
+unfolding ownWords pagesOf pagesIn ownerAt pageCount
 returns c =
     let l = c .before in
     let a = l .before .before .before .args in

@@ -10,9 +10,9 @@ use Rattle.lists.specs.Lists.{bit, every, upTo}
 use Rattle.model.specs.Model.{declare, newRegion, subregion, allocate}
 use Rattle.model.specs.Calls.{makes}
 use Rattle.frames.specs.Frames.{frameCount, topFrame, widthAt, slotAt, putSlot}
-use Rattle.kinds.specs.Kinds.{kindCount, sizeOf, markAt, withKind, wrongMarks}
-use Rattle.regions.specs.Regions.{nameAt, entryOf, tagOf, isLive, liveCount, levelAt, newestAt, oldestAt, unused, withRegion, withPage}
-use Rattle.pages.specs.Pages.{pageCount, ownerAt, takenAt, isFree, pagesOf, wrongLength, withTaken}
+use Rattle.kinds.specs.Kinds.{kindCount, sizeOf, markAt, withKind, wrongMarks, sizeIn}
+use Rattle.regions.specs.Regions.{nameAt, entryOf, tagOf, isLive, liveCount, levelAt, newestAt, oldestAt, unused, withRegion, withPage, entryIn, liveIn, unusedIn}
+use Rattle.pages.specs.Pages.{pageCount, ownerAt, takenAt, isFree, pagesOf, wrongLength, withTaken, pagesIn, wrongLengthIn}
 use Rattle.outcomes.specs.Store.{Store, regions, pages, slot, size, roomy}
 use Rattle.outcomes.specs.Outcome.{withRegions, withPages, withHeap, badLength, noFrame, lacks, dead, full, namesOut, checks, refusal, fillSlot, allocated, blank}
 use Rattle.outcomes.specs.Examples.{small}
@@ -66,5 +66,5 @@ cases =
     ∷ []
 
 pub computed : every (λ p. eqb (p .0) (p .1)) cases ≡ true
-unfolding frameCount topFrame widthAt slotAt putSlot kindCount sizeOf markAt withKind wrongMarks nameAt entryOf tagOf isLive liveCount levelAt newestAt oldestAt unused withRegion withPage pageCount ownerAt takenAt isFree pagesOf wrongLength withTaken slot size roomy badLength noFrame lacks dead full namesOut checks refusal fillSlot allocated blank
+unfolding frameCount topFrame widthAt slotAt putSlot kindCount sizeOf markAt withKind wrongMarks nameAt entryOf tagOf isLive liveCount levelAt newestAt oldestAt unused withRegion withPage pageCount ownerAt takenAt isFree pagesOf wrongLength withTaken slot size roomy badLength noFrame lacks dead full namesOut checks refusal fillSlot allocated blank sizeIn entryIn liveIn unusedIn pagesIn wrongLengthIn
 computed = refl

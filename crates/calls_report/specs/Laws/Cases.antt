@@ -5,9 +5,9 @@ use mathlib.Core.List.{List, [], _∷_}
 use Prim.Native.Nat.{ℕ}
 use lib.ListN.{set}
 use Rattle.frames.specs.Frames.{frameCount, widthAt, slotAt}
-use Rattle.kinds.specs.Kinds.{kindCount, sizeOf, markAt}
-use Rattle.regions.specs.Regions.{nameAt, entryOf, tagOf, parentAt, subregionsOf, countAt}
-use Rattle.pages.specs.Pages.{pageCount, ownerAt, takenAt, ownerIn, ownerOf, pagesOf}
+use Rattle.kinds.specs.Kinds.{kindCount, sizeOf, markAt, sizeIn}
+use Rattle.regions.specs.Regions.{nameAt, entryOf, tagOf, parentAt, subregionsOf, countAt, entryIn, subregionsIn}
+use Rattle.pages.specs.Pages.{pageCount, ownerAt, takenAt, ownerIn, ownerOf, pagesOf, pagesIn}
 use Rattle.objects.specs.Objects.{walk, headersTo, headersOn, freeWords, freeWordsOn}
 use Rattle.outcomes.specs.Store.{Store, regions, pages, slotsInto, wordsInto, outsideOf}
 use Rattle.outcomes.specs.Outcome.{withHeap}
@@ -23,5 +23,5 @@ shown S r = let t = tagOf (regions S) r in countAt (regions S) (entryOf (regions
 
 -- two slots lead into region 5, and a word of region 1. own_words_counted: 4 for the second 3
 pub reports : (shown small 1 ≡ 2 ∷ 2 ∷ 1 ∷ 1 ∷ []) × (shown small 5 ≡ 2 ∷ 3 ∷ 1 ∷ 0 ∷ []) × (shown looped 5 ≡ 2 ∷ 3 ∷ 1 ∷ 0 ∷ [])
-unfolding frameCount widthAt slotAt kindCount sizeOf markAt nameAt entryOf tagOf parentAt subregionsOf countAt pageCount ownerAt takenAt ownerIn ownerOf pagesOf walk headersTo headersOn freeWords freeWordsOn slotsInto wordsInto outsideOf
+unfolding frameCount widthAt slotAt kindCount sizeOf markAt nameAt entryOf tagOf parentAt subregionsOf countAt pageCount ownerAt takenAt ownerIn ownerOf pagesOf walk headersTo headersOn freeWords freeWordsOn slotsInto wordsInto outsideOf sizeIn entryIn subregionsIn pagesIn
 reports = (refl, refl, refl)

@@ -16,7 +16,7 @@ use Rattle.lists.specs.Laws.UpTo.{all-upTo}
 use Rattle.model.specs.Model.{Answer, Call, gives, refusedBy}
 use Rattle.model.specs.Calls.{reason, _yields_}
 use Rattle.regions.specs.declared.Regions.{Regions}
-use Rattle.regions.specs.Regions.{nameAt, entryOf, isLive}
+use Rattle.regions.specs.Regions.{nameAt, entryOf, isLive, entryIn}
 use Rattle.state.specs.declared.State.{State}
 use Rattle.outcomes.specs.Store.{Store, frames, regions, pages}
 use Rattle.outcomes.specs.Outcome.{Outcome, Accepted, store, refusal, fillSlot, badLength, noFrame, oneFrame, lacks, lacksBeneath, dead}
@@ -47,7 +47,7 @@ module _ (S : Store) (rest : List (Bool × ℕ)) where
 
 -- an entry plus 1 is no large number
 pub entry-most : (r : Regions) (n : ℕ) → entryOf r n ≤ 64
-unfolding entryOf
+unfolding entryOf entryIn nameAt
 entry-most r n = go (eqb n 0)
   where
     go : (b : Bool) → pick b 64 (find (λ i. eqb (nameAt r i) n) 64 (upTo 64)) ≤ 64

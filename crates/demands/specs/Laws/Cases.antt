@@ -9,8 +9,8 @@ use lib.ListN.{length}
 use Rattle.lists.specs.Lists.{every, times}
 use Rattle.model.specs.Model.{push, refusedBy}
 use Rattle.frames.specs.Frames.{frameCount, widthAt, slotAt}
-use Rattle.kinds.specs.Kinds.{kindCount, sizeOf, markAt}
-use Rattle.regions.specs.Regions.{nameAt, nameOf, entryOf, parentAt, countAt}
+use Rattle.kinds.specs.Kinds.{kindCount, sizeOf, markAt, sizeIn}
+use Rattle.regions.specs.Regions.{nameAt, nameOf, entryOf, parentAt, countAt, entryIn, nameIn}
 use Rattle.pages.specs.Pages.{pageCount, ownerAt, takenAt, isFree}
 use Rattle.objects.specs.Objects.{walk, headersTo, headersOn}
 use Rattle.outcomes.specs.History.{History, begin, entries, listedRegions, listedKinds, listedFrames, listedHeld, listedFree, metOn, slotsOf, pointersOf, homeOf, slotsLeadingTo, wordsLeadingTo, outside, storedCount, subregions, holders}
@@ -50,5 +50,5 @@ cases =
     ∷ []
 
 pub computed : every (λ p. eqb (p .0) (p .1)) cases ≡ true
-unfolding opening born popped ended told note frameCount widthAt slotAt kindCount sizeOf markAt nameAt nameOf entryOf parentAt countAt pageCount ownerAt takenAt isFree walk headersTo headersOn begin entries listedRegions listedKinds listedFrames listedHeld listedFree metOn slotsOf pointersOf homeOf slotsLeadingTo wordsLeadingTo outside storedCount subregions
+unfolding opening born popped ended told note frameCount widthAt slotAt kindCount sizeOf markAt nameAt nameOf entryOf parentAt countAt pageCount ownerAt takenAt isFree walk headersTo headersOn begin entries listedRegions listedKinds listedFrames listedHeld listedFree metOn slotsOf pointersOf homeOf slotsLeadingTo wordsLeadingTo outside storedCount subregions sizeIn nameIn entryIn
 computed = refl

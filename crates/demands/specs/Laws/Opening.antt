@@ -12,7 +12,7 @@ use Rattle.lists.specs.Laws.All.{all-change}
 use Rattle.lists.specs.Laws.UpTo.{all-upTo}
 use Rattle.kinds.specs.Kinds.{kindCount}
 use Rattle.frames.specs.Frames.{frameCount}
-use Rattle.regions.specs.Regions.{nameAt, nameOf, parentAt}
+use Rattle.regions.specs.Regions.{nameAt, nameOf, parentAt, nameIn}
 use Rattle.pages.specs.Pages.{pageCount, ownerAt, isFree}
 use Rattle.outcomes.specs.Store.{Store, regions, pages}
 use Rattle.outcomes.specs.History.{History, Holding, begin, entries, listedKinds, listedFrames, listedRegions, listedHeld, listedFree, metOn}
@@ -38,7 +38,7 @@ module _ (n : ℕ) (heap : List ℕ) (few : n ≤ 256) where
   all-made = omega arith
 
   none-held : listedHeld S ≡ []
-  unfolding listedHeld nameOf
+  unfolding listedHeld nameOf nameIn
   none-held =
       let all = upTo (pageCount (pages S)) in
       let t : ℕ → Holding = λ j. record { page = j; region = nameOf (regions S) (ownerAt (pages S) j) } in
@@ -49,7 +49,7 @@ module _ (n : ℕ) (heap : List ℕ) (few : n ≤ 256) where
   free-listed = keep-every (isFree (pages S)) (upTo (pageCount (pages S))) (all-upTo _ (pageCount (pages S)) (λ j l. rw (lt-ltb j (pageCount (pages S)) l, all-free n j))) ∙ ap upTo all-made
 
   pub blank-opens : begin S ≡ opening n
-  unfolding begin opening blank frameCount kindCount nameAt nameOf parentAt entries listedRegions listedKinds listedFrames
+  unfolding begin opening blank frameCount kindCount nameAt nameOf parentAt entries listedRegions listedKinds listedFrames nameIn
   blank-opens =
       let opens : List Holding → List ℕ → ℕ → History = λ hs fs k. record {
         kinds = [];

@@ -1,15 +1,15 @@
 use borrow.Author.Needs.{needs}
 use borrow.Author.Tests.{le-ltb, lt-ltb}
-use Rattle.frames.specs.Frames.{uncounts}
+use Rattle.frames.specs.Frames.{uncountsIn}
 use Rattle.frames.proofs.uncounts.Statement.{statement}
 use Rattle.frames.proofs.uncounts.Tie as tie
 
 returns : tie.Need-returns
-unfolding uncounts
-returns c = rw (← c .before .before .top .ensures) (simp (lt-ltb _ _ (c .before .if1 .taken)))
+unfolding uncountsIn
+returns c = rw (← c .before .top .ensures) (simp (lt-ltb _ _ (c .if1 .taken)))
 
 returns-2 : tie.Need-returns-2
-unfolding uncounts
+unfolding uncountsIn
 returns-2 c = rw (← c .before .top .ensures) (simp (le-ltb _ _ (c .if1 .left)))
 
 pub uncounts-spec : {M : Type 1} → statement M

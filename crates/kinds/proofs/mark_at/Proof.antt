@@ -1,10 +1,8 @@
 use borrow.Author.Needs.{needs}
-use Rattle.kinds.specs.Kinds.{markAt}
 use Rattle.kinds.proofs.mark_at.Statement.{statement}
 use Rattle.kinds.proofs.mark_at.Tie as tie
 
 returns : tie.Need-returns
-unfolding markAt
 returns c = rw (← c .before .less .ensures, ← c .byte .ensures)
 
 pub mark-at-spec : {M : Type 1} → statement M

@@ -20,7 +20,7 @@ use Rattle.lists.specs.Laws.Kept.{map-same, joined-same, joined-kept, map-joine
 use Rattle.lists.specs.Laws.Every.{every-map, every-keep, every-below, any-single}
 use Rattle.kinds.specs.declared.Kinds.{Kinds}
 use Rattle.kinds.specs.Kinds.{sizeOf}
-use Rattle.regions.specs.Regions.{nameAt, nameOf, entryOf, parentAt, isLive}
+use Rattle.regions.specs.Regions.{nameAt, nameOf, entryOf, parentAt, isLive, entryIn, nameIn}
 use Rattle.pages.specs.Pages.{pageCount, ownerAt, takenAt, isFree}
 use Rattle.objects.specs.Objects.{walk, headersTo, headersOn}
 use Rattle.outcomes.specs.Store.{Store, kinds, regions, pages}
@@ -163,7 +163,7 @@ module _ (S : Store) where
       go i false e = pick-same {A = ℕ} (not (eqb (nameAt (regions S) i) 0)) 0
 
   pub one-lives : among 1 (map (nameAt (regions S)) (entries S)) ≡ isLive (regions S) 1
-  unfolding entries isLive entryOf
+  unfolding entries isLive entryOf entryIn nameAt
   one-lives =
       any-map (λ x. eqb x 1) (nameAt (regions S)) (entries S)
       ∙ any-keep (named 1) (λ i. not (eqb (nameAt (regions S) i) 0)) (named-used 1 (λ e. omega arith)) (upTo 64)
@@ -176,7 +176,7 @@ module _ (S : Store) where
 
     -- a region that holds a page lives
     live-name : (t : ℕ) → nameOf (regions S) t ≢ 0 → history.isLive (begin S) (nameOf (regions S) t) ≡ true
-    unfolding begin listedRegions entries nameOf nameAt
+    unfolding begin listedRegions entries nameOf nameAt nameIn
     live-name zero h = absurd (h refl)
     live-name (suc i) h =
         let r = nameAt (regions S) i in
@@ -218,7 +218,7 @@ module _ (S : Store) where
 
     -- each page is free or a live region's
     pub pages-held : pagesHeld (begin S) ≡ every (λ j. eqb (ownerAt (pages S) j) 0 || not (eqb (holderOf j) 0)) (upTo (pageCount (pages S)))
-    unfolding pagesHeld begin nameOf
+    unfolding pagesHeld begin nameOf nameIn
     pages-held = every-below _ _ (pageCount (pages S)) (λ j h. rw (free-times j h, held-times j h, holders-live j) (go (eqb (ownerAt (pages S) j) 0) (eqb (holderOf j) 0) (λ e. rw (eqb-true (ownerAt (pages S) j) 0 e))))
       where
         go : (a b : Bool) → (a ≡ true → b ≡ true) → (eqb (bit a + bit (not b)) 1 && true) ≡ (a || not b)
@@ -241,7 +241,7 @@ module _ (S : Store) where
 
       -- a region is known by its name as by its tag
       pub name-same : (t i : ℕ) → nameAt (regions S) i ≢ 0 → eqb (nameOf (regions S) t) (nameAt (regions S) i) ≡ eqb t (suc i)
-      unfolding nameOf nameAt
+      unfolding nameOf nameAt nameIn
       name-same zero i h = ne-eqb 0 (nameAt (regions S) i) (λ e. h (sym e)) ∙ sym (eqb·zero-suc i)
       name-same (suc k) i h = by-test (eqb k i)
           (λ e. rw (eqb·suc-suc k i, e) (eq-eqb (nameAt (regions S) k) (nameAt (regions S) i) (ap (nameAt (regions S)) (eqb-true k i e))))
@@ -253,7 +253,7 @@ module _ (S : Store) where
           find-first (named r) 64 64 i (used-below i h) (eq-eqb r r refl) (λ k l. ne-eqb (nameAt (regions S) k) r (λ e. omega (arith, one-entry i k h e)))
 
       pub entry-is : (i : ℕ) → nameAt (regions S) i ≢ 0 → entryOf (regions S) (nameAt (regions S) i) ≡ i
-      unfolding entryOf
+      unfolding entryOf entryIn nameAt
       entry-is i h = rw (ne-eqb (nameAt (regions S) i) 0 h) (find-entry i h)
 
       pub parent-is : (i : ℕ) → nameAt (regions S) i ≢ 0 → parentOf (begin S) (nameAt (regions S) i) ≡ nameOf (regions S) (parentAt (regions S) i)

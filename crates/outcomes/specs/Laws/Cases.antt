@@ -7,10 +7,10 @@ use Prim.Native.Nat.{ℕ}
 use lib.Dec.{eqb}
 use Rattle.lists.specs.Lists.{bit, every, equal}
 use Rattle.model.specs.Model.{push, fetch, load, put, view}
-use Rattle.frames.specs.Frames.{frameCount, topFrame, widthAt, slotAt, putSlot, pushed, uncounts, popped}
-use Rattle.kinds.specs.Kinds.{kindCount, sizeOf, markAt, allData as onlyData}
-use Rattle.regions.specs.Regions.{nameAt, nameOf, entryOf, parentAt, oldestAt, countAt, moved, rolled, withCounts}
-use Rattle.pages.specs.Pages.{pageCount, ownerAt, ownerIn, ownerOf, pagesOf, wrongLength}
+use Rattle.frames.specs.Frames.{frameCount, topFrame, widthAt, slotAt, putSlot, pushed, uncounts, popped, uncountsIn}
+use Rattle.kinds.specs.Kinds.{kindCount, sizeOf, markAt, allData as onlyData, sizeIn}
+use Rattle.regions.specs.Regions.{nameAt, nameOf, entryOf, parentAt, oldestAt, countAt, moved, rolled, withCounts, entryIn, nameIn}
+use Rattle.pages.specs.Pages.{pageCount, ownerAt, ownerIn, ownerOf, pagesOf, wrongLength, pagesIn, wrongLengthIn}
 use Rattle.objects.specs.Objects.{kindOf, wordCount, markOf, wordAt}
 use Rattle.outcomes.specs.Store.{Store, frames, regions, pages, slot, slotTargets, breaks}
 use Rattle.outcomes.specs.Outcome.{withFrames, badLength, noFrame, oneFrame, lacks, lacksBeneath, noWord, isData, allData, checks, refusal, fillSlot, writeWord, recounted, countedIn, popFrame, pointed, viewed}
@@ -61,5 +61,5 @@ cases =
     ∷ []
 
 pub computed : every (λ p. eqb (p .0) (p .1)) cases ≡ true
-unfolding frameCount topFrame widthAt slotAt putSlot pushed uncounts popped kindCount sizeOf markAt nameAt nameOf entryOf parentAt oldestAt countAt moved rolled withCounts pageCount ownerAt ownerIn ownerOf pagesOf wrongLength kindOf wordCount markOf wordAt slot slotTargets breaks badLength noFrame oneFrame lacks lacksBeneath noWord isData allData onlyData checks refusal fillSlot writeWord recounted countedIn popFrame pointed
+unfolding frameCount topFrame widthAt slotAt putSlot pushed uncounts popped kindCount sizeOf markAt nameAt nameOf entryOf parentAt oldestAt countAt moved rolled withCounts pageCount ownerAt ownerIn ownerOf pagesOf wrongLength kindOf wordCount markOf wordAt slot slotTargets breaks badLength noFrame oneFrame lacks lacksBeneath noWord isData allData onlyData checks refusal fillSlot writeWord recounted countedIn popFrame pointed uncountsIn sizeIn nameIn entryIn pagesIn wrongLengthIn
 computed = refl

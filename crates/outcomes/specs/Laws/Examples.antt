@@ -7,8 +7,8 @@ use Prim.Native.Nat.{ℕ, suc}
 use lib.Dec.{eqb}
 use Rattle.lists.specs.Lists.{pick, every, equal}
 use Rattle.frames.specs.Frames.{frameCount, widthAt, slotAt}
-use Rattle.kinds.specs.Kinds.{kindCount, sizeOf, markAt}
-use Rattle.regions.specs.Regions.{nameAt, nameOf, entryOf, parentAt, levelAt, newestAt, oldestAt, countAt}
+use Rattle.kinds.specs.Kinds.{kindCount, sizeOf, markAt, sizeIn}
+use Rattle.regions.specs.Regions.{nameAt, nameOf, entryOf, parentAt, levelAt, newestAt, oldestAt, countAt, entryIn, nameIn}
 use Rattle.pages.specs.Pages.{pageCount, ownerAt, takenAt, isFree}
 use Rattle.objects.specs.Objects.{walk, headersTo, headersOn}
 use Rattle.outcomes.specs.History.{entries, listedRegions, listedKinds, listedFrames, listedHeld, listedFree, metOn, begin, slotsOf, pointersOf, leads, homeOf, slotsLeadingTo, wordsLeadingTo, outside, uncountedInto, storedCount, countsExact, slotsLead, wordsLead, pagesHeld}
@@ -26,15 +26,15 @@ abbrev right : Example → Bool
 right e = equal eqb (failing 0 (clauses (e .memory))) (e .breaks)
 
 pub broken : every right examples ≡ true
-unfolding frameCount widthAt slotAt kindCount sizeOf markAt nameAt nameOf entryOf parentAt levelAt newestAt oldestAt countAt pageCount ownerAt takenAt isFree walk headersTo headersOn entries listedRegions listedKinds listedFrames listedHeld listedFree metOn begin slotsOf pointersOf leads homeOf slotsLeadingTo wordsLeadingTo outside uncountedInto storedCount countsExact slotsLead wordsLead pagesHeld filled placed newestOwn oldestOwn
+unfolding frameCount widthAt slotAt kindCount sizeOf markAt nameAt nameOf entryOf parentAt levelAt newestAt oldestAt countAt pageCount ownerAt takenAt isFree walk headersTo headersOn entries listedRegions listedKinds listedFrames listedHeld listedFree metOn begin slotsOf pointersOf leads homeOf slotsLeadingTo wordsLeadingTo outside uncountedInto storedCount countsExact slotsLead wordsLead pagesHeld filled placed newestOwn oldestOwn sizeIn nameIn entryIn
 broken = refl
 
 -- what the accepted one lists
 met : begin small .objects ≡ record { place = 0; kind = 1; home = 1 } ∷ record { place = 3; kind = 3; home = 1 } ∷ record { place = 64; kind = 1; home = 5 } ∷ record { place = 67; kind = 2; home = 5 } ∷ []
-unfolding kindCount sizeOf nameAt nameOf pageCount ownerAt takenAt walk headersTo headersOn listedHeld metOn begin
+unfolding kindCount sizeOf nameAt nameOf pageCount ownerAt takenAt walk headersTo headersOn listedHeld metOn begin sizeIn nameIn
 met = refl
 
 -- of regions 1 and 5: stored count, pointers in uncounted frames, outside pointers
 counted : map (λ r. storedCount small r ∷ uncountedInto (begin small) small r ∷ outside (begin small) small r ∷ []) (1 ∷ 5 ∷ []) ≡ (2 ∷ 0 ∷ 2 ∷ []) ∷ (2 ∷ 1 ∷ 3 ∷ []) ∷ []
-unfolding frameCount widthAt slotAt kindCount sizeOf markAt nameAt nameOf entryOf parentAt countAt pageCount ownerAt takenAt isFree walk headersTo headersOn entries listedRegions listedKinds listedFrames listedHeld listedFree metOn begin slotsOf pointersOf homeOf slotsLeadingTo wordsLeadingTo outside uncountedInto storedCount
+unfolding frameCount widthAt slotAt kindCount sizeOf markAt nameAt nameOf entryOf parentAt countAt pageCount ownerAt takenAt isFree walk headersTo headersOn entries listedRegions listedKinds listedFrames listedHeld listedFree metOn begin slotsOf pointersOf homeOf slotsLeadingTo wordsLeadingTo outside uncountedInto storedCount sizeIn nameIn entryIn
 counted = refl

@@ -12,7 +12,7 @@ use Rattle.lists.specs.Lists.{pick, every}
 use Rattle.lists.specs.Laws.Tests.{both}
 use Rattle.model.specs.Model.{Call, declare, newRegion, subregion, push, dropFrame, handBack, allocate, first, copy, fetch, clear, load, setPointer, put, get, view, same, about, report, totals, audit, delete}
 use Rattle.model.specs.Calls.{reason, _yields_}
-use Rattle.pages.specs.Pages.{wrongLength}
+use Rattle.pages.specs.Pages.{wrongLength, wrongLengthIn}
 use Rattle.outcomes.specs.Store.{Store, pages}
 use Rattle.outcomes.specs.Sound.{Sound}
 use Rattle.outcomes.specs.Outcome.{Outcome, Answered, badLength, checks, refusal}
@@ -58,7 +58,7 @@ never (t ∷ ts) p e = let q = both (not (eqb (t .1) 21)) _ p in go (t .0) (t .1
     go false n h ih e = ih e
 
 pub right-length : (S : Store) → Sound S → badLength S ≡ false
-unfolding badLength wrongLength
+unfolding badLength wrongLength wrongLengthIn
 right-length S h =
     let m = both (leb 1 ((pages S) .made)) _ (h .made) in
     rw (ne-eqb ((pages S) .made) 0 (λ e. omega (arith, leb-true 1 ((pages S) .made) (m .0), e)), h .heapLength)

@@ -17,8 +17,8 @@ use Rattle.lists.specs.Laws.UpTo.{getD-map-upTo, length-map-upTo, sum-below}
 use Rattle.lists.specs.Laws.Every.{every-map, every-keep, every-below}
 use Rattle.model.specs.Model.{marks}
 use Rattle.frames.specs.Frames.{frameCount, widthAt, slotAt}
-use Rattle.kinds.specs.Kinds.{kindCount, sizeOf, markAt}
-use Rattle.regions.specs.Regions.{nameAt, nameOf}
+use Rattle.kinds.specs.Kinds.{kindCount, sizeOf, markAt, sizeIn}
+use Rattle.regions.specs.Regions.{nameAt, nameOf, nameIn}
 use Rattle.pages.specs.Pages.{pageCount, ownerAt, ownerIn, ownerOf}
 use Rattle.objects.specs.Objects.{headersOn, freeWords, freeWordsOn}
 use Rattle.outcomes.specs.Store.{Store, frames, kinds, regions, pages, slotsInto, wordsInto}
@@ -43,7 +43,7 @@ module _ (S : Store) where
 
   -- for every n the marks listed are those that the state reads
   pub marks-length : (n : ℕ) → sizeOf (kinds S) n ≡ length (marks (listedKinds S) n)
-  unfolding sizeOf
+  unfolding sizeOf sizeIn kindCount
   marks-length zero = refl
   marks-length (suc n) = by-test (ltb n (kindCount (kinds S)))
       (λ e. rw (kind-listed n (ltb-true n _ e)) (sym (length-map-upTo (markAt (kinds S) (suc n)) (sizeOf (kinds S) (suc n)))))
@@ -123,7 +123,7 @@ pub record Ordered (S : Store) : Type 0 where
 module _ (S : Store) (h : Ordered S) where
   -- a header met on a page that is not free
   pub leads-owned : (q : ℕ) → leads (begin S) (suc q) ≡ (ltb (q / 64) (pageCount (pages S)) && (not (eqb (ownerAt (pages S) (q / 64)) 0) && among q (headersOn (kinds S) (S .heap) (pages S) (q / 64))))
-  unfolding nameOf
+  unfolding nameOf nameIn
   leads-owned q = leads-is S q ∙ go (ltb (q / 64) (pageCount (pages S))) refl
     where
       go : (b : Bool) → ltb (q / 64) (pageCount (pages S)) ≡ b → (b && among q (headersOf S (q / 64))) ≡ (b && (not (eqb (ownerAt (pages S) (q / 64)) 0) && among q (headersOn (kinds S) (S .heap) (pages S) (q / 64))))
@@ -138,7 +138,7 @@ module _ (S : Store) (h : Ordered S) where
 
   -- its region by name is the owner of its page
   pub home-name : (v : ℕ) → Known v → homeOf (begin S) v ≡ nameOf (regions S) (ownerOf (pages S) v)
-  unfolding ownerOf ownerIn nameOf ownerAt
+  unfolding ownerOf ownerIn nameOf ownerAt nameIn
   home-name zero k = home-none S 0 (leads-null S)
   home-name (suc q) k =
       let e : suc q - 1 ≡ q = omega arith in
@@ -161,7 +161,7 @@ module _ (S : Store) (h : Ordered S) where
     -- what the objects of page j add
     on-page : (j : ℕ) → j < pageCount (pages S) → (ownerAt (pages S) j ≢ 0 → All (λ q. All Known (freeWords (kinds S) (S .heap) q)) (headersOn (kinds S) (S .heap) (pages S) j))
         → sum (λ q. history.wordsLeadingTo (begin S) S (nameAt (regions S) i) (objectAt S q)) (headersOf S j) ≡ wordsInto S (suc i) j
-    unfolding history.wordsLeadingTo wordsInto freeWordsOn nameOf
+    unfolding history.wordsLeadingTo wordsInto freeWordsOn nameOf nameIn
     on-page j l k = by-test (eqb (ownerAt (pages S) j) 0)
         (λ z. rw (z, eqb-true (ownerAt (pages S) j) 0 z))
         (λ z.

@@ -15,7 +15,7 @@ use Rattle.lists.specs.Laws.UpTo.{find-found}
 use Rattle.model.specs.Model.{Answer, Call, declare, newRegion, subregion, push, dropFrame, handBack, allocate, first, copy, fetch, clear, load, setPointer, put, get, view, same, about, report, totals, audit, delete, gives, refusedBy}
 use Rattle.regions.specs.Regions.{newestAt, entryOf}
 use Rattle.pages.specs.declared.Pages.{Pages}
-use Rattle.pages.specs.Pages.{pageCount, ownerAt, isFree, pagesOf}
+use Rattle.pages.specs.Pages.{pageCount, ownerAt, isFree, pagesOf, pagesIn}
 use Rattle.outcomes.specs.Store.{Store, regions, pages, roomy, size}
 use Rattle.outcomes.specs.Sound.{Sound}
 use Rattle.outcomes.specs.Outcome.{Outcome, Accepted, Answered, Audited, Chosen, checks, refusal}
@@ -100,7 +100,7 @@ unfolding roomy
 newest S i n e = back (newestAt (regions S) i) _ e
 
 free-page : (p : Pages) → eqb (pagesOf p 0) 0 ≡ false → (j : ℕ) × (isFree p j ≡ true)
-unfolding pagesOf isFree
+unfolding pagesOf isFree pagesIn ownerAt pageCount
 free-page p e =
     let n = pageCount p in
     let f : ℕ → Bool = λ j. eqb (ownerAt p j) 0 in

@@ -13,11 +13,11 @@ use Rattle.lists.specs.Laws.UpTo.{length-upTo}
 use Rattle.lists.specs.Laws.All.{all-at}
 use Rattle.frames.specs.Frames.{frameCount, widthAt, slotAt}
 use Rattle.kinds.specs.declared.Kinds.{Kinds}
-use Rattle.kinds.specs.Kinds.{sizeOf, kindCount, markAt}
+use Rattle.kinds.specs.Kinds.{sizeOf, kindCount, markAt, sizeIn}
 use Rattle.regions.specs.declared.Regions.{Regions}
-use Rattle.regions.specs.Regions.{nameAt, nameOf, parentAt, liveCount, subregionsOf, countAt, oldestAt}
+use Rattle.regions.specs.Regions.{nameAt, nameOf, parentAt, liveCount, subregionsOf, countAt, oldestAt, liveIn, nameIn, subregionsIn}
 use Rattle.pages.specs.declared.Pages.{Pages}
-use Rattle.pages.specs.Pages.{pageCount, ownerAt, takenAt, ownerOf, pagesOf}
+use Rattle.pages.specs.Pages.{pageCount, ownerAt, takenAt, ownerOf, pagesOf, pagesIn}
 use Rattle.objects.specs.Objects.{kindOf, wordAt, walk, headersTo, headersOn, freeWords, freeWordsOn}
 use Rattle.outcomes.specs.Store.{Store, frames, kinds, pages, slotsInto, wordsInto, outsideOf}
 use Rattle.outcomes.specs.Shape.{RegionsShaped, Shaped}
@@ -33,7 +33,7 @@ joined-most g b [] h = omega arith
 joined-most g b (x ∷ xs) h = rw (suc-mul (length xs) b, length-append) (omega (arith, h x, joined-most g b xs h))
 
 pub size-most : (k : Kinds) (n : ℕ) → sizeOf k n ≤ 16
-unfolding sizeOf
+unfolding sizeOf sizeIn kindCount
 size-most k n = go (ltb 0 n && leb n (kindCount k))
   where
     go : (b : Bool) → pick b (min (getD (k .sizes) (n - 1) 0) 16) 0 ≤ 16
@@ -91,20 +91,20 @@ module _ (S : Store) (h : Shaped S) where
   kind-below v = pick-below (eqb v 0) 0 (getD (S .heap) (v - 1) 0) 4294967296 (omega arith) (all-at (λ x. x < 4294967296) (S .heap) (v - 1) 0 (h .heap) (omega arith))
 
 pub live-below : (g : Regions) → liveCount g ≤ 64
-unfolding liveCount
+unfolding liveCount liveIn nameAt
 live-below g = omega (arith, count-most (λ i. not (eqb (nameAt g i) 0)) (upTo 64), length-upTo 64)
 
 pub subregions-below : (g : Regions) (t : ℕ) → subregionsOf g t ≤ 64
-unfolding subregionsOf
+unfolding subregionsOf subregionsIn nameAt parentAt
 subregions-below g t = omega (arith, count-most (λ i. not (eqb (nameAt g i) 0) && eqb (parentAt g i) t) (upTo 64), length-upTo 64)
 
 pub pages-below : (p : Pages) (t : ℕ) → pagesOf p t ≤ 256
-unfolding pagesOf pageCount
+unfolding pagesOf pageCount pagesIn ownerAt
 pages-below p t = omega (arith, count-most (λ j. eqb (ownerAt p j) t) (upTo (min (p .made) 256)), length-upTo (min (p .made) 256))
 
 module _ (g : Regions) (h : RegionsShaped g) where
   pub name-below : (t : ℕ) → nameOf g t < 4294967296
-  unfolding nameOf
+  unfolding nameOf nameIn
   name-below t = all-at (λ x. x < 4294967296) (0 ∷ g .names) t 0 (omega arith, h .names .1) (omega arith)
 
   pub count-below : (i : ℕ) → countAt g i < 4294967296

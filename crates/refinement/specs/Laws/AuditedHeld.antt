@@ -17,8 +17,8 @@ use Rattle.lists.specs.Laws.Finds.{true-every}
 use Rattle.lists.specs.Laws.UpTo.{each-every}
 use Rattle.model.specs.Model.{Model, object, marks}
 use Rattle.model.specs.Laws.Slots.{object-valid}
-use Rattle.kinds.specs.Kinds.{kindCount, sizeOf}
-use Rattle.regions.specs.Regions.{nameOf}
+use Rattle.kinds.specs.Kinds.{kindCount, sizeOf, sizeIn}
+use Rattle.regions.specs.Regions.{nameOf, nameIn}
 use Rattle.pages.specs.Pages.{pageCount, ownerAt}
 use Rattle.objects.specs.Objects.{headersOn}
 use Rattle.outcomes.specs.Store.{Store, kinds, regions, pages}
@@ -41,7 +41,7 @@ module _ {L : Model} {sp : List ℕ} {ids : ℕ → List ℕ} (S : Store) (a : A
   declared = le-leb ((kinds S) .declared) 16 (omega (arith, a .onKinds .declared, a .valid .kinds .many))
 
   size-some : (n : ℕ) → n < length (L .kinds) → 1 ≤ getD ((kinds S) .sizes) n 0
-  unfolding sizeOf
+  unfolding sizeOf sizeIn kindCount
   size-some n h =
       let e : suc n - 1 ≡ n = omega arith in
       let k = kind-count (a .onKinds) (a .valid .kinds .many) in
@@ -69,7 +69,7 @@ module _ {L : Model} {sp : List ℕ} {ids : ℕ → List ℕ} (S : Store) (a : A
 
   module _ (names : length ((regions S) .names) ≡ 64) where
     pub filling : every (filled S) (listedHeld S) ≡ true
-    unfolding filled nameOf
+    unfolding filled nameOf nameIn
     filling = pages-filled S names ∙ each-every _ (pageCount (pages S)) (λ j h. by-test (eqb (holderOf S j) 0) (λ e. rw e) (λ e.
         rw e (eq-eqb _ (getD ((pages S) .taken) j 0) (fills j (omega (arith, page-count (a .onPages))) (λ z. eqb-false (holderOf S j) 0 e (ap (nameOf (regions S)) z))))))
       where

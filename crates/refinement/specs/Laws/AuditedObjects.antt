@@ -14,7 +14,7 @@ use Rattle.lists.specs.Laws.Sums.{sum-map, sum-joined}
 use Rattle.lists.specs.Laws.UpTo.{sum-below}
 use Rattle.model.specs.Model.{Model, livesIn, homeIn}
 use Rattle.model.specs.Valid.{Valid}
-use Rattle.regions.specs.Regions.{nameOf, tagOf}
+use Rattle.regions.specs.Regions.{nameOf, tagOf, nameIn}
 use Rattle.pages.specs.Pages.{pageCount, ownerAt, ownerIn, ownerOf}
 use Rattle.outcomes.specs.Store.{Store, frames, kinds, regions, pages}
 use Rattle.outcomes.specs.Laws.Begin.{holderOf, headersOf, headers}
@@ -43,7 +43,7 @@ module _ {L : Model} {sp : List ℕ} {ids : ℕ → List ℕ} (S : Store) (a : A
 
   -- the headers met on a page are those of the model's objects there
   headers-of : (j : ℕ) → j < (pages S) .made → headersOf S j ≡ pick (eqb (ownerAt (pages S) j) 0) [] (map (λ q. spot sp q - 1) (ids j))
-  unfolding nameOf
+  unfolding nameOf nameIn
   headers-of j h = go (a .onPages .owned j h)
     where
       go : Owned L (regions S) (pages S) j

@@ -19,7 +19,7 @@ use Rattle.model.specs.Model.{Model, Region, region, livesIn}
 use Rattle.model.specs.Laws.Regions.{found-itself}
 use Rattle.model.specs.Paged.{Paged, Lies, space, spaceOf}
 use Rattle.regions.specs.Regions.{tagOf, entryOf, newestAt}
-use Rattle.pages.specs.Pages.{ownerAt, pagesOf}
+use Rattle.pages.specs.Pages.{ownerAt, pagesOf, pageCount, pagesIn}
 use Rattle.outcomes.specs.Store.{Store, regions, pages}
 use Rattle.refinement.specs.Represents.{wordsIn, Tiles, RoomAgrees}
 use Rattle.refinement.specs.Laws.Tags.{tag-some}
@@ -43,7 +43,7 @@ module _ {L : Model} {sp : List ℕ} {ids : ℕ → List ℕ} (S : Store) (a : A
 
   -- the pages with tag t
   pages-by : (t : ℕ) → pagesOf (pages S) t ≡ sum (λ j. bit (eqb (ownerAt (pages S) j) t)) (upTo ((pages S) .made))
-  unfolding pagesOf
+  unfolding pagesOf pagesIn ownerAt pageCount
   pages-by t = ap (λ n. count (λ j. eqb (ownerAt (pages S) j) t) (upTo n)) (page-count (a .onPages))
 
   -- whether the region named r holds page j, and the words that its objects take there

@@ -28,7 +28,7 @@ use Rattle.model.specs.Laws.Counts.{outside-stored, remove-stored}
 use Rattle.frames.specs.declared.Frames.{Frames}
 use Rattle.frames.specs.Frames.{widthAt, slotAt, raised}
 use Rattle.regions.specs.declared.Regions.{Regions}
-use Rattle.regions.specs.Regions.{nameAt, entryOf, tagOf, parentAt, levelAt, newestAt, oldestAt, countAt, withoutRegion, withCounts, moved}
+use Rattle.regions.specs.Regions.{nameAt, entryOf, tagOf, parentAt, levelAt, newestAt, oldestAt, countAt, withoutRegion, withCounts, moved, entryIn}
 use Rattle.regions.specs.Laws.Removed.{name-removed, name-left, entry-left, tag-left}
 use Rattle.pages.specs.declared.Pages.{Pages}
 use Rattle.pages.specs.Pages.{pageCount, ownerAt, ownerOf, freed}
@@ -258,7 +258,7 @@ module _ {L : Model} {sp : List ℕ} {ids : ℕ → List ℕ} (S : Store) (v : V
 
 pub delete-step : (L : Model) (sp : List ℕ) (ids : ℕ → List ℕ) (S : Store) → Valid L → Represents L sp ids S → (a : Answer) (T : Store) (r : ℕ) → Shaped S → ((q : ℕ) → outside L q ≤ 16640)
     → refusal L (delete r) ≡ 0 → Accepted (delete r) S a T → (a ≡ reply L (delete r)) × Represents (accepted L (delete r)) sp ids T
-unfolding checks Accepted reply accepted removeRegion deleted recounted withCounts withoutRegion nameAt entryOf tagOf countAt
+unfolding checks Accepted reply accepted removeRegion deleted recounted withCounts withoutRegion nameAt entryOf tagOf countAt entryIn
 delete-step L sp ids S v h a T r shaped small e (x, y) =
     let t = passed L (delete r) e in
     let l = not-false (livesIn L r) (t .0) in

@@ -18,11 +18,11 @@ use Rattle.model.specs.Model.{Answer, region, marks, livesIn, homeIn, gives, st
 use Rattle.model.specs.Calls.{fresh, makes}
 use Rattle.frames.specs.Frames.{widthAt, slotAt}
 use Rattle.kinds.specs.declared.Kinds.{Kinds}
-use Rattle.kinds.specs.Kinds.{kindCount, sizeOf}
+use Rattle.kinds.specs.Kinds.{kindCount, sizeOf, sizeIn}
 use Rattle.regions.specs.declared.Regions.{Regions}
-use Rattle.regions.specs.Regions.{nameAt, entryOf, tagOf, parentAt, levelAt, newestAt, oldestAt, countAt}
+use Rattle.regions.specs.Regions.{nameAt, entryOf, tagOf, parentAt, levelAt, newestAt, oldestAt, countAt, entryIn}
 use Rattle.pages.specs.declared.Pages.{Pages}
-use Rattle.pages.specs.Pages.{pageCount, ownerAt, pagesOf}
+use Rattle.pages.specs.Pages.{pageCount, ownerAt, pagesOf, pagesIn}
 use Rattle.outcomes.specs.Store.{Store}
 use Rattle.outcomes.specs.Outcome.{store, blank, MakeOutcome}
 use Rattle.outcomes.specs.Shape.{Shaped, Array}
@@ -56,20 +56,20 @@ module _ (n : ℕ) where
   all-free j = zeros 256 j
 
   free-pages : n ≤ 256 → pagesOf p 0 ≡ n
-  unfolding pagesOf pageCount blank
+  unfolding pagesOf pageCount blank pagesIn ownerAt
   free-pages h = sum-below (λ j. bit (eqb (ownerAt p j) 0)) (λ j. 1) (min n 256) (λ j l. rw (all-free j)) ∙ sum-ones (upTo (min n 256)) ∙ length-upTo (min n 256) ∙ omega arith
 
   held-pages : pagesOf p 1 ≡ 0
-  unfolding pagesOf
+  unfolding pagesOf pagesIn ownerAt pageCount
   held-pages = sum-below (λ j. bit (eqb (ownerAt p j) 1)) (λ j. 0) (pageCount p) (λ j l. rw (all-free j)) ∙ sum-pick false (λ j. 0) (upTo (pageCount p))
 
   no-kind : (m : ℕ) → sizeOf k m ≡ length (marks [] m)
-  unfolding sizeOf kindCount k blank
+  unfolding sizeOf kindCount k blank sizeIn
   no-kind zero = refl
   no-kind (suc m) = rw (lt-ltb 0 (suc m) (omega arith), lt-leb (suc m) 0 (omega arith))
 
   pub fresh-represents : 1 ≤ n → n ≤ 256 → Represents (fresh n) [] (λ j. []) (store (blank n 1) (replicate (64 * n) 0))
-  unfolding blank widthAt slotAt nameAt entryOf tagOf parentAt levelAt newestAt oldestAt countAt stored inWords inFrames g k
+  unfolding blank widthAt slotAt nameAt entryOf tagOf parentAt levelAt newestAt oldestAt countAt stored inWords inFrames g k entryIn
   fresh-represents low high = record {
     onFrames = record { standing = refl; counted = refl; widths = λ i h. absurd (omega arith); slots = λ i s h l. absurd (omega arith) };
     onKinds = record { declared = refl; sizes = no-kind; few = λ m h. absurd (omega arith); marked = λ m w h. absurd (unmarked m w h) };

@@ -26,12 +26,12 @@ use Rattle.model.specs.Laws.Regions.{live-all, live-more, live-less, region-mor
 use Rattle.model.specs.Laws.Grows.{marks-append}
 use Rattle.model.specs.Laws.Counts.{declare-stored, region-stored}
 use Rattle.kinds.specs.declared.Kinds.{Kinds}
-use Rattle.kinds.specs.Kinds.{kindCount, sizeOf, markAt, withKind}
+use Rattle.kinds.specs.Kinds.{kindCount, sizeOf, markAt, withKind, sizeIn}
 use Rattle.regions.specs.declared.Regions.{Regions}
 use Rattle.regions.specs.Regions.{nameAt, entryOf, tagOf, parentAt, levelAt, newestAt, oldestAt, countAt, unused, withRegion, withCounts}
 use Rattle.regions.specs.Laws.Added.{name-new, name-old, entry-old, entry-new}
 use Rattle.pages.specs.declared.Pages.{Pages}
-use Rattle.pages.specs.Pages.{pageCount, ownerAt, pagesOf}
+use Rattle.pages.specs.Pages.{pageCount, ownerAt, pagesOf, pagesIn}
 use Rattle.outcomes.specs.Store.{Store, kinds, regions, pages}
 use Rattle.outcomes.specs.Shape.{Shaped, KindsShaped, RegionsShaped}
 use Rattle.outcomes.specs.Outcome.{Accepted, withRegions}
@@ -53,7 +53,7 @@ by-kind P ks ms m old new none = go (by-same m (length ks)) (leb m (length ks)) 
 module _ (ks : List (List ℕ)) (ms : List ℕ) (k : Kinds) (a : KindsAgree ks k) (s : KindsShaped k) (few : length ks < 16) (short : length ms ≤ 16)
     (shorts : (n : ℕ) → length (marks ks n) ≤ 16) where
   kind-size : (n : ℕ) → sizeOf (withKind k ms) n ≡ length (marks (ks ++ (ms ∷ [])) n)
-  unfolding sizeOf kindCount withKind
+  unfolding sizeOf kindCount withKind sizeIn
   kind-size zero = refl
   kind-size (suc m) = by-kind (λ l. sizeOf (withKind k ms) (suc m) ≡ length l) ks ms m
       (λ h. rw (d, lt-ltb 0 (suc m) (omega arith), le-leb (suc m) (min (k .declared + 1) 16) (omega (arith, a .declared)), getD-set-other (k .sizes) (k .declared) m (length ms) 0 (λ e. omega (arith, a .declared)))
@@ -230,7 +230,7 @@ module _ (L : Model) (sp : List ℕ) (g : Regions) (v : Valid L) (a : RegionsAgr
   tag-last = ap (λ x. x + 1) entry-last
 
   none-held : (p : Pages) (words : ℕ) → PagesAgree L g p words → pagesOf p (tagOf (withRegion g i t l) (L .given + 1)) ≡ 0
-  unfolding pagesOf pageCount
+  unfolding pagesOf pageCount pagesIn ownerAt
   none-held p words b = rw tag-last (sum-below (λ j. bit (eqb (ownerAt p j) (i + 1))) (λ j. 0) (min (p .made) 256) (λ j h. ap bit (unowned p words b j (omega arith)))
       ∙ sum-nothing (λ j. 0) (λ j. refl) (upTo (min (p .made) 256)))
 

@@ -9,7 +9,7 @@ use Rattle.model.specs.Model.{Model, Object, region, livesIn, stored}
 use Rattle.model.specs.Calls.{withFrames}
 use Rattle.frames.specs.declared.Frames.{Frames}
 use Rattle.regions.specs.declared.Regions.{Regions}
-use Rattle.regions.specs.Regions.{nameAt, entryOf, tagOf, parentAt, levelAt, newestAt, oldestAt, countAt, withCounts}
+use Rattle.regions.specs.Regions.{nameAt, entryOf, tagOf, parentAt, levelAt, newestAt, oldestAt, countAt, withCounts, entryIn}
 use Rattle.pages.specs.declared.Pages.{Pages}
 use Rattle.outcomes.specs.Store.{Store, regions, pages}
 use Rattle.outcomes.specs.Outcome.{withRegions, withFrames as storeFrames}
@@ -21,13 +21,13 @@ altered L ks fs m os = record { free = L .free; kinds = ks; regions = L .regions
 
 -- counts have no part in tags
 tag-kept : (g : Regions) (cs : List ℕ) (r : ℕ) → tagFor g r ≡ tagFor (withCounts g cs) r
-unfolding withCounts nameAt entryOf tagOf
+unfolding withCounts nameAt entryOf tagOf entryIn
 tag-kept g cs zero = refl
 tag-kept g cs (suc r) = refl
 
 module _ (L : Model) (ks fs : List (List ℕ)) (m : ℕ) (os : List Object) (g : Regions) (cs : List ℕ) where
   pub regions-kept : (sp : List ℕ) → RegionsAgree L sp g → RegionsAgree (altered L ks fs m os) sp (withCounts g cs)
-  unfolding withCounts nameAt entryOf tagOf parentAt levelAt oldestAt
+  unfolding withCounts nameAt entryOf tagOf parentAt levelAt oldestAt entryIn
   regions-kept sp h = record {
     given = h .given;
     rows = h .rows;
@@ -35,7 +35,7 @@ module _ (L : Model) (ks fs : List (List ℕ)) (m : ℕ) (os : List Object) (g :
   }
 
   pub pages-kept : (p : Pages) (n : ℕ) → PagesAgree L g p n → PagesAgree (altered L ks fs m os) (withCounts g cs) p n
-  unfolding withCounts nameAt entryOf tagOf newestAt
+  unfolding withCounts nameAt entryOf tagOf newestAt entryIn
   pages-kept p n h = record { some = h .some; most = h .most; whole = h .whole; free = h .free; held = h .held; owned = h .owned; room = h .room }
 
 -- objects that stay alive, in place and as long as they were
@@ -48,7 +48,7 @@ tiles-kept L L₂ sp sp₂ h a e (p ∷ ps) t =
 
 pub objects-kept : (L : Model) (fs : List (List ℕ)) (m : ℕ) {sp : List ℕ} {ids : ℕ → List ℕ} (g : Regions) (cs : List ℕ) {p : Pages} {heap : List ℕ}
     → ObjectsAgree L sp ids g p heap → ObjectsAgree (withFrames L fs m) sp ids (withCounts g cs) p heap
-unfolding withCounts nameAt entryOf tagOf
+unfolding withCounts nameAt entryOf tagOf entryIn
 objects-kept L fs m {sp} {ids} g cs {p} o = record {
   known = o .known;
   laid = o .laid;
@@ -63,7 +63,7 @@ objects-kept L fs m {sp} {ids} g cs {p} o = record {
 -- frames, m and counts changed, all else as it was
 pub framed : {L : Model} {fs : List (List ℕ)} {m : ℕ} {sp : List ℕ} {ids : ℕ → List ℕ} {S : Store} {f : Frames} (cs : List ℕ) → FramesAgree sp fs m f → ((r : ℕ) → livesIn L r ≡ true → getD cs (entryOf (regions S) r) 0 ≡ stored (withFrames L fs m) r)
     → Represents L sp ids S → Represents (withFrames L fs m) sp ids (storeFrames (withRegions S (withCounts (regions S) cs)) f)
-unfolding withCounts nameAt entryOf tagOf countAt
+unfolding withCounts nameAt entryOf tagOf countAt entryIn
 framed {L} {fs} {m} {sp} {ids} {S} cs hf hc h = record {
   onFrames = hf;
   onKinds = h .onKinds;

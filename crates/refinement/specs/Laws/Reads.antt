@@ -23,7 +23,7 @@ use Rattle.kinds.specs.Kinds.{kindCount}
 use Rattle.regions.specs.declared.Regions.{Regions}
 use Rattle.regions.specs.Regions.{nameOf}
 use Rattle.pages.specs.declared.Pages.{Pages}
-use Rattle.pages.specs.Pages.{pageCount, ownerIn, ownerOf, wrongLength}
+use Rattle.pages.specs.Pages.{pageCount, ownerIn, ownerOf, wrongLength, wrongLengthIn}
 use Rattle.objects.specs.Objects.{kindOf, wordCount, markOf, wordAt}
 use Rattle.outcomes.specs.Store.{Store, slot as storeSlot}
 use Rattle.refinement.specs.Represents.{Represents, FramesAgree, KindsAgree, RegionsAgree, PagesAgree, ObjectsAgree, Alive, spot, image, wordsIn, tagFor}
@@ -76,7 +76,7 @@ module _ {L : Model} {g : Regions} {p : Pages} {words : ℕ} (a : PagesAgree L g
   page-count = omega (arith, a .most)
 
   pub right-length : wrongLength p words ≡ false
-  unfolding wrongLength
+  unfolding wrongLength wrongLengthIn
   right-length = rw (ne-eqb (p .made) 0 (λ e. omega (arith, a .some)), eq-eqb words (64 * p .made) (a .whole))
 
 -- ---- pointers

@@ -17,7 +17,7 @@ use Rattle.lists.specs.Laws.UpTo.{any-one}
 use Rattle.lists.specs.Laws.Kept.{any-index, find-changed, kept-each, each-kept}
 use Rattle.model.specs.Model.{Region, noRegion, region, called, livesIn}
 use Rattle.regions.specs.declared.Regions.{Regions}
-use Rattle.regions.specs.Regions.{nameAt, nameOf, entryOf, tagOf}
+use Rattle.regions.specs.Regions.{nameAt, nameOf, entryOf, tagOf, entryIn, nameIn}
 use Rattle.outcomes.specs.Store.{Store, regions}
 use Rattle.outcomes.specs.History.{entries}
 use Rattle.outcomes.specs.Sound.{Sound}
@@ -76,7 +76,7 @@ module _ (S : Store) (sh : Shaped S) where
 
   -- the name at a tag
   pub live-name : (t : ℕ) → nameOf (regions S) t ≢ 0 → livesIn (rebuilt S) (nameOf (regions S) t) ≡ true
-  unfolding nameOf nameAt
+  unfolding nameOf nameAt nameIn
   live-name zero h = absurd (h refl)
   live-name (suc i) h = live-used i h
 
@@ -102,7 +102,7 @@ module _ (S : Store) (sh : Shaped S) where
     entry-used = entry-is S (sh .inRegions .names .0) few
 
     find-used : (i : ℕ) → nameAt (regions S) i ≢ 0 → find (λ k. eqb (nameAt (regions S) k) (nameAt (regions S) i)) 64 (upTo 64) ≡ i
-    unfolding entryOf
+    unfolding entryOf entryIn nameAt
     find-used i h = rw (ne-eqb (nameAt (regions S) i) 0 h) at (entry-used i h)
 
     pub region-used : (i : ℕ) → nameAt (regions S) i ≢ 0 → region ((rebuilt S) .regions) (nameAt (regions S) i) ≡ readRegion S i
@@ -114,7 +114,7 @@ module _ (S : Store) (sh : Shaped S) where
 
     -- the tag that a name belongs to
     pub tag-name : (t : ℕ) → nameOf (regions S) t ≢ 0 → tagOf (regions S) (nameOf (regions S) t) ≡ t
-    unfolding nameOf tagOf nameAt
+    unfolding nameOf tagOf nameAt nameIn
     tag-name zero h = absurd (h refl)
     tag-name (suc i) h = rw (add-one (entryOf (regions S) (nameAt (regions S) i))) (ap suc (entry-used i h))
 

@@ -18,7 +18,7 @@ use Rattle.lists.specs.Laws.Every.{every-map}
 use Rattle.model.specs.Model.{marks, livesIn, homeIn}
 use Rattle.model.specs.Valid.{ValidKinds, ValidFrames, known as lead}
 use Rattle.frames.specs.Frames.{frameCount, widthAt, slotAt}
-use Rattle.kinds.specs.Kinds.{kindCount, sizeOf}
+use Rattle.kinds.specs.Kinds.{kindCount, sizeOf, sizeIn}
 use Rattle.outcomes.specs.Store.{Store, frames, kinds}
 use Rattle.outcomes.specs.History.{begin, listedKinds, listedFrames, slotsLead, leads}
 use Rattle.outcomes.specs.Sound.{Sound, within}
@@ -54,7 +54,7 @@ module _ (S : Store) (sh : Shaped S) (so : Sound S) where
   }
 
   size-few : (n : ℕ) → n < kindCount (kinds S) → (1 ≤ sizeOf (kinds S) (suc n)) × (sizeOf (kinds S) (suc n) ≤ 16)
-  unfolding sizeOf kindCount
+  unfolding sizeOf kindCount sizeIn
   size-few n h =
       let e : suc n - 1 ≡ n = omega arith in
       rw (lt-ltb 0 (suc n) (omega arith), le-leb (suc n) (kindCount (kinds S)) (omega arith), e) (omega (arith, sizes-few n (omega arith)))

@@ -18,7 +18,7 @@ use Rattle.lists.specs.Laws.Kept.{kept-most}
 use Rattle.model.specs.Model.{Region, called, live, parentOf, homeIn}
 use Rattle.model.specs.Valid.{Distinct, ValidNames, ValidParent, OwnOldest}
 use Rattle.model.specs.Laws.Regions.{live-zero, level-is}
-use Rattle.regions.specs.Regions.{nameAt, nameOf, entryOf, parentAt, levelAt, oldestAt}
+use Rattle.regions.specs.Regions.{nameAt, nameOf, entryOf, parentAt, levelAt, oldestAt, nameIn}
 use Rattle.outcomes.specs.Store.{Store, regions}
 use Rattle.outcomes.specs.History.{begin, entries, leads, homeOf}
 use Rattle.outcomes.specs.Sound.{Sound, placed, oldestOwn}
@@ -71,7 +71,7 @@ module _ (S : Store) (sh : Shaped S) (so : Sound S) where
 
   -- the name above, and its tag
   name-above : (i : ℕ) → nameAt (regions S) i ≢ 0 → parentAt (regions S) i ≡ tagFor (regions S) (nameOf (regions S) (parentAt (regions S) i))
-  unfolding nameOf nameAt
+  unfolding nameOf nameAt nameIn
   name-above i h = go (above i h)
     where
       go : ((parentAt (regions S) i ≡ 0) × (levelAt (regions S) i ≡ 1)) ⊎ ((p : ℕ) × Below i p) → parentAt (regions S) i ≡ tagFor (regions S) (nameOf (regions S) (parentAt (regions S) i))
@@ -106,7 +106,7 @@ module _ (S : Store) (sh : Shaped S) (so : Sound S) where
   zero-dead = live-zero ((rebuilt S) .regions) named
 
   parent-valid : (i : ℕ) → nameAt (regions S) i ≢ 0 → ValidParent ((rebuilt S) .regions) (readRegion S i)
-  unfolding readRegion nameOf nameAt
+  unfolding readRegion nameOf nameAt nameIn
   parent-valid i h = go (above i h)
     where
       deep : levelAt (regions S) i ≤ 16
@@ -141,7 +141,7 @@ module _ (S : Store) (sh : Shaped S) (so : Sound S) where
   one-lives = any-map (called 1) (readRegion S) (entries S) ∙ sym (any-map (λ x. eqb x 1) (nameAt (regions S)) (entries S)) ∙ so .one
 
   root : parentOf ((rebuilt S) .regions) 1 ≡ 0
-  unfolding readRegion nameOf
+  unfolding readRegion nameOf nameIn
   root = ap (λ g. g .parent) (t .is) ∙ go (above i (λ z. t .some (sym (t .name) ∙ z)))
     where
       t : Read S sh so 1

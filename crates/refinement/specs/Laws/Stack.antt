@@ -21,7 +21,7 @@ use Rattle.model.specs.Laws.Slots.{pop-valid}
 use Rattle.model.specs.Moves.{uncounted}
 use Rattle.model.specs.Laws.Counts.{push-stored, pop-stored, zero-uncounted, none-uncounted, top-uncounted}
 use Rattle.frames.specs.declared.Frames.{Frames}
-use Rattle.frames.specs.Frames.{topFrame, widthAt, slotAt, pushed, uncounts, popped}
+use Rattle.frames.specs.Frames.{topFrame, widthAt, slotAt, pushed, uncounts, popped, uncountsIn}
 use Rattle.regions.specs.Regions.{tagOf, countAt, moved, withCounts}
 use Rattle.outcomes.specs.Store.{Store, frames, regions, slotTargets}
 use Rattle.outcomes.specs.Shape.{Shaped, FramesShaped}
@@ -78,7 +78,7 @@ pub mark-falls : (n m : ℕ) → m ≤ n → pick (ltb 0 n && leb n m) (m - 1) m
 mark-falls n m low = by-test (ltb 0 n) (λ e. rw e) (λ e. let z = ltb-false 0 n e in rw (e, le-leb n m (omega arith)) (omega arith))
 
 uncounts-is : {sp : List ℕ} {fs : List (List ℕ)} {m : ℕ} {f : Frames} → FramesAgree sp fs m f → uncounts f ≡ (ltb 0 (last fs) && leb (last fs) m)
-unfolding uncounts
+unfolding uncounts uncountsIn
 uncounts-is h = rw (top-frame h, h .counted)
 
 pop-frames : (sp : List ℕ) (fs : List (List ℕ)) (m : ℕ) (f : Frames) → m ≤ last fs → FramesAgree sp fs m f

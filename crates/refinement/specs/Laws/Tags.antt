@@ -20,7 +20,7 @@ use Rattle.model.specs.Valid.{Valid}
 use Rattle.model.specs.Laws.Regions.{distinct-once, found-itself}
 use Rattle.regions.specs.declared.Regions.{Regions}
 use Rattle.regions.specs.Laws.Entries.{name-of, entry-find, entry-found, unused-found}
-use Rattle.regions.specs.Regions.{nameAt, nameOf, entryOf, tagOf, isLive, liveCount, parentAt, subregionsOf, unused}
+use Rattle.regions.specs.Regions.{nameAt, nameOf, entryOf, tagOf, isLive, liveCount, parentAt, subregionsOf, unused, entryIn, liveIn, nameIn, subregionsIn}
 use Rattle.refinement.specs.Represents.{RegionsAgree, tagFor}
 
 pub tag-some : (g : Regions) (r : ℕ) → tagOf g r ≢ 0
@@ -78,7 +78,7 @@ module _ {L : Model} {sp : List ℕ} {g : Regions} (a : RegionsAgree L sp g) whe
     tag-for = for-some g r (live-named r l)
 
   pub live-is : (r : ℕ) → isLive g r ≡ livesIn L r
-  unfolding isLive entryOf
+  unfolding isLive entryOf entryIn nameAt
   live-is r = by-test (livesIn L r) (λ l. lt-ltb (entryOf g r) 64 (entry-in r l) ∙ sym l) (λ l. go r l (by-same r 0))
     where
       go : (r : ℕ) → livesIn L r ≡ false → (r ≡ 0) ⊎ (r ≢ 0) → isLive g r ≡ livesIn L r
@@ -86,7 +86,7 @@ module _ {L : Model} {sp : List ℕ} {g : Regions} (a : RegionsAgree L sp g) whe
       go r l (inr n) = rw (l, entry-find g r n, find-none (holds g r) 64 (upTo 64) (some-entry r n ∙ l))
 
   pub for-name : (r : ℕ) → Named L r → nameOf g (tagFor g r) ≡ r
-  unfolding nameOf
+  unfolding nameOf nameIn
   for-name zero k = refl
   for-name (suc r) k = tag-name (suc r) (rw (ne-eqb (suc r) 0 (λ e. omega arith)) at k)
 
@@ -109,7 +109,7 @@ module _ {L : Model} {sp : List ℕ} {g : Regions} (a : RegionsAgree L sp g) whe
   entry-live i h n = sym (some-entry (nameAt g i) n) ∙ any-one (holds g (nameAt g i)) 64 i h (eq-eqb (nameAt g i) (nameAt g i) refl)
 
   pub live-count : liveCount g ≡ length (L .regions)
-  unfolding liveCount
+  unfolding liveCount liveIn nameAt
   live-count = ap (λ f. sum f (upTo 64)) (fun-ext (λ i. go (eqb (nameAt g i) 0))) ∙ a .rows (λ x. 1) ∙ sum-ones (L .regions)
     where
       go : (b : Bool) → bit (not b) ≡ pick b 0 1
@@ -136,7 +136,7 @@ module _ {L : Model} {sp : List ℕ} {g : Regions} (a : RegionsAgree L sp g) whe
     parent-name r l = ap (nameOf g) (a .entry r l .parent) ∙ for-name (parentIn L r) (parent-known r)
 
     pub subregions-are : (r : ℕ) → livesIn L r ≡ true → subregionsOf g (tagOf g r) ≡ subregions L r
-    unfolding subregionsOf
+    unfolding subregionsOf subregionsIn nameAt parentAt
     subregions-are r l = sum-below (λ i. bit (not (eqb (nameAt g i) 0) && eqb (parentAt g i) (tagOf g r))) (λ i. pick (eqb (nameAt g i) 0) 0 (bit (eqb (parentIn L (nameAt g i)) r))) 64 below
         ∙ a .rows (λ n. bit (eqb (parentIn L n) r))
         ∙ sum-same _ _ (L .regions) (all-map (λ x e. ap (λ y. bit (eqb (y .parent) r)) e) (L .regions) (found-itself (L .regions) (v .names .distinct)))

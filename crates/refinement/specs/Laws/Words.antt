@@ -20,7 +20,7 @@ use Rattle.model.specs.Laws.Slots.{Known, held-lives, in-list}
 use Rattle.model.specs.Moves.{weighs, moves}
 use Rattle.model.specs.Laws.Passed.{passed}
 use Rattle.model.specs.Laws.Moves.{accepted-stored}
-use Rattle.regions.specs.Regions.{nameAt, entryOf, tagOf, countAt, moved, withCounts}
+use Rattle.regions.specs.Regions.{nameAt, entryOf, tagOf, countAt, moved, withCounts, entryIn}
 use Rattle.pages.specs.Pages.{ownerOf}
 use Rattle.objects.specs.Objects.{wordAt}
 use Rattle.outcomes.specs.Store.{Store, regions, pages}
@@ -107,7 +107,7 @@ module _ (L : Model) (sp : List ℕ) (ids : ℕ → List ℕ) (S : Store) (v : V
 
   written : (cs : List ℕ) → ((r : ℕ) → livesIn L r ≡ true → getD cs (entryOf (regions S) r) 0 ≡ stored (writeWord L s w x) r)
       → Represents (writeWord L s w x) sp ids (storeWrite (withRegions S (withCounts (regions S) cs)) (spot sp (slot L s)) w (image sp (markAt L s w) x))
-  unfolding writeWord storeWrite os₂ withCounts entryOf tagOf nameAt countAt
+  unfolding writeWord storeWrite os₂ withCounts entryOf tagOf nameAt countAt entryIn
   written cs counts =
       let o = h .onObjects in
       record {

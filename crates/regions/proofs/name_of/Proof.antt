@@ -1,14 +1,16 @@
-use mathlib.Core.Path.{sym, _∙_}
+use mathlib.Core.Path.{_∙_, sym}
 use borrow.Author.Needs.{needs}
-use Rattle.regions.specs.Laws.Entries.{name-none, name-some}
+use Rattle.regions.specs.Regions.{nameIn}
+use Rattle.regions.specs.Laws.Entries.{name-in}
 use Rattle.regions.proofs.name_of.Statement.{statement}
 use Rattle.regions.proofs.name_of.Tie as tie
 
 returns : tie.Need-returns
-returns c = rw (c .if1 .taken) (sym (name-none (c .before .args .r)))
+unfolding nameIn
+returns c = rw (c .if1 .taken)
 
 returns-2 : tie.Need-returns-2
-returns-2 c = c .name-at .ensures ∙ sym (name-some (c .before .before .args .r) (c .before .before .args .t) (c .before .if1 .left))
+returns-2 c = c .name-at .ensures ∙ sym (name-in (c .before .before .before .args .names .now) (c .before .before .before .args .t) (c .before .if1 .left))
 
 pub name-of-spec : {M : Type 1} → statement M
 name-of-spec = tie.close (tie.spec returns (λ c. search needs) (λ c κs. search needs) returns-2)

@@ -1,31 +1,32 @@
 use mathlib.Core.Path.{_≡_, ap, _∙_}
 use mathlib.Core.Bool.{Bool, not, _&&_}
 use mathlib.Core.Logic.{⊎-elim}
+use mathlib.Core.List.{List}
 use Prim.Native.Nat.{ℕ, _+_, _-_, _≤_}
 use native.Mathlib.Omega.{arith}
 use lib.Dec.{eqb}
+use lib.ListN.{getD}
 use borrow.Author.Needs.{needs}
 use borrow.Author.Tests.{eq-eqb, ne-eqb}
 use Rattle.lists.specs.Lists.{bit, count, upTo}
 use Rattle.lists.specs.Laws.Sums.{count-most}
 use Rattle.lists.specs.Laws.UpTo.{count-next, length-upTo}
-use Rattle.regions.specs.declared.Regions.{Regions}
-use Rattle.regions.specs.Regions.{nameAt, parentAt, subregionsOf}
+use Rattle.regions.specs.Regions.{subregionsIn}
 use Rattle.regions.proofs.subregions_of.Statement.{statement}
 use Rattle.regions.proofs.subregions_of.Tie as tie
 use Rattle.regions.proofs.subregions_of.Reads as reads
 use Rattle.regions.proofs.subregions_of.Lts as lts
 
-abbrev below : Regions → ℕ → ℕ → Bool
-below r t i = not (eqb (nameAt r i) 0) && eqb (parentAt r i) t
+abbrev below : List ℕ → List ℕ → ℕ → ℕ → Bool
+below names parents t i = not (eqb (getD names i 0) 0) && eqb (getD parents i 0) t
 
 abbrev Inv-loop : tie.InvT-loop
-Inv-loop r t k₀ i₀ k i = (i ≤ 64) × (k ≡ count (below r t) (upTo i))
+Inv-loop names parents t k₀ i₀ k i = (i ≤ 64) × (k ≡ count (below names parents t) (upTo i))
 
 abbrev μ-loop : tie.MeasureT-loop
-μ-loop r t k₀ i₀ k i = 64 - i
+μ-loop names parents t k₀ i₀ k i = 64 - i
 
-adds : (c : tie.Joined1 Inv-loop μ-loop) → let l = c .before .before .before in c .if1 .k ≡ l .loop .k + bit (below (l .before .args .r) (l .before .args .t) (l .loop .i))
+adds : (c : tie.Joined1 Inv-loop μ-loop) → let l = c .before .before .before in c .if1 .k ≡ l .loop .k + bit (below (l .before .before .before .args .names .now) (l .before .before .before .args .parents .now) (l .before .before .before .args .t) (l .loop .i))
 adds c =
     rw (← c .before .name-at .ensures)
     (⊎-elim
@@ -37,19 +38,19 @@ add-k : tie.Need-add-k Inv-loop μ-loop
 add-k c =
     let l = c .before .before .before .before .before in
     let i = l .loop .i in
-    omega (arith, count-most (below (l .before .args .r) (l .before .args .t)) (upTo i), length-upTo i)
+    omega (arith, count-most (below (l .before .before .before .args .names .now) (l .before .before .before .args .parents .now) (l .before .before .before .args .t)) (upTo i), length-upTo i)
 
 loop-again : tie.Need-loop-again Inv-loop μ-loop
 loop-again c =
     let l = c .before .before .before in
-    omega (arith, adds c, count-next (below (l .before .args .r) (l .before .args .t)) (l .loop .i))
+    omega (arith, adds c, count-next (below (l .before .before .before .args .names .now) (l .before .before .before .args .parents .now) (l .before .before .before .args .t)) (l .loop .i))
 
 returns : tie.Need-returns Inv-loop μ-loop
-unfolding subregionsOf
+unfolding subregionsIn
 returns c =
     let l = c .before in
     let e : l .loop .i ≡ 64 = omega arith in
-    l .loop .inv .1 ∙ ap (λ n. count (below (l .before .args .r) (l .before .args .t)) (upTo n)) e
+    l .loop .inv .1 ∙ ap (λ n. count (below (l .before .before .before .args .names .now) (l .before .before .before .args .parents .now) (l .before .before .before .args .t)) (upTo n)) e
 
 pub subregions-of-spec : {M : Type 1} → statement M
 subregions-of-spec =

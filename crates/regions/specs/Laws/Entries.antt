@@ -7,13 +7,13 @@ use mathlib.Core.List.{List, [], _∷_}
 use Prim.Native.Nat.{ℕ, zero, suc, _+_, _-_, _<_}
 use native.Mathlib.Omega.{arith}
 use lib.Dec.{eqb}
-use lib.ListN.{length}
+use lib.ListN.{length, getD}
 use borrow.Author.Tests.{eqb-true, ne-eqb, lt-ltb}
 use Rattle.lists.specs.Lists.{bit, any, find, count, upTo}
 use Rattle.lists.specs.Laws.Finds.{any-count}
 use Rattle.lists.specs.Laws.UpTo.{length-upTo, find-found}
 use Rattle.regions.specs.declared.Regions.{Regions}
-use Rattle.regions.specs.Regions.{nameAt, nameOf, entryOf, liveCount, unused}
+use Rattle.regions.specs.Regions.{nameAt, nameOf, entryOf, liveCount, unused, entryIn, liveIn, nameIn, unusedIn}
 
 count-not : (f : ℕ → Bool) (l : List ℕ) → count (λ i. not (f i)) l + count f l ≡ length l
 count-not f [] = refl
@@ -25,20 +25,24 @@ count-not f (x ∷ xs) = go (f x) (count-not f xs)
 
 -- the name at a tag is the one at its entry
 pub name-none : (r : Regions) → nameOf r 0 ≡ 0
-unfolding nameOf
+unfolding nameOf nameIn
 name-none r = refl
+
+pub name-in : (names : List ℕ) (t : ℕ) → t ≢ 0 → nameIn names t ≡ getD names (t - 1) 0
+unfolding nameIn
+name-in names zero h = absurd (h refl)
+name-in names (suc i) h = let e : suc i - 1 ≡ i = omega arith in rw e
 
 pub name-some : (r : Regions) (t : ℕ) → t ≢ 0 → nameOf r t ≡ nameAt r (t - 1)
 unfolding nameOf nameAt
-name-some r zero h = absurd (h refl)
-name-some r (suc i) h = let e : suc i - 1 ≡ i = omega arith in rw e
+name-some r t h = name-in (r .names) t h
 
 pub name-of : (r : Regions) (i : ℕ) → nameOf r (i + 1) ≡ nameAt r i
 name-of r i = let e : i + 1 - 1 ≡ i = omega arith in name-some r (i + 1) (λ q. omega arith) ∙ ap (nameAt r) e
 
 -- the entry of a name
 pub entry-find : (r : Regions) (n : ℕ) → n ≢ 0 → entryOf r n ≡ find (λ i. eqb (nameAt r i) n) 64 (upTo 64)
-unfolding entryOf
+unfolding entryOf entryIn nameAt
 entry-find r n h = rw (ne-eqb n 0 h)
 
 pub entry-found : (r : Regions) (n : ℕ) → n ≢ 0 → any (λ i. eqb (nameAt r i) n) (upTo 64) ≡ true → (entryOf r n < 64) × (nameAt r (entryOf r n) ≡ n)
@@ -47,12 +51,16 @@ entry-found r n h e =
     rw (entry-find r n h) (f .0, eqb-true (nameAt r (find (λ i. eqb (nameAt r i) n) 64 (upTo 64))) n (f .1))
 
 -- the entries in use and those not in use are all
+pub live-rest : (names : List ℕ) → liveIn names + count (λ i. eqb (getD names i 0) 0) (upTo 64) ≡ 64
+unfolding liveIn
+live-rest names = count-not (λ i. eqb (getD names i 0) 0) (upTo 64) ∙ length-upTo 64
+
 pub live-unused : (r : Regions) → liveCount r + count (λ i. eqb (nameAt r i) 0) (upTo 64) ≡ 64
-unfolding liveCount
-live-unused r = count-not (λ i. eqb (nameAt r i) 0) (upTo 64) ∙ length-upTo 64
+unfolding liveCount nameAt
+live-unused r = live-rest (r .names)
 
 pub unused-found : (r : Regions) → liveCount r < 64 → (unused r < 64) × (nameAt r (unused r) ≡ 0)
-unfolding unused
+unfolding unused unusedIn nameAt
 unused-found r h =
     let none : ℕ → Bool = λ i. eqb (nameAt r i) 0 in
     let f = find-found none 64 64 (any-count none (upTo 64) ∙ lt-ltb 0 (count none (upTo 64)) (rest (liveCount r) (count none (upTo 64)) (live-unused r) h)) in
