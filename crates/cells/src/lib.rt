@@ -49,55 +49,6 @@ pub fn store_byte(s: &mut [u8], i: usize, v: u8)
     }
 }
 
-// An array by value with one element replaced.
-pub fn put64(a: [u32; 64], i: usize, v: u32) -> [u32; 64]
-    ensures { λ r. ⌜ r ≡ set a i v ⌝ }
-{
-    let mut b = a;
-    store(&mut b, i, v);
-    b
-}
-
-pub fn put64_half(a: [u16; 64], i: usize, v: u16) -> [u16; 64]
-    ensures { λ r. ⌜ r ≡ set a i v ⌝ }
-{
-    let mut b = a;
-    store_half(&mut b, i, v);
-    b
-}
-
-pub fn put256_byte(a: [u8; 256], i: usize, v: u8) -> [u8; 256]
-    ensures { λ r. ⌜ r ≡ set a i v ⌝ }
-{
-    let mut b = a;
-    store_byte(&mut b, i, v);
-    b
-}
-
-pub fn put64_byte(a: [u8; 64], i: usize, v: u8) -> [u8; 64]
-    ensures { λ r. ⌜ r ≡ set a i v ⌝ }
-{
-    let mut b = a;
-    store_byte(&mut b, i, v);
-    b
-}
-
-pub fn put32_byte(a: [u8; 32], i: usize, v: u8) -> [u8; 32]
-    ensures { λ r. ⌜ r ≡ set a i v ⌝ }
-{
-    let mut b = a;
-    store_byte(&mut b, i, v);
-    b
-}
-
-pub fn put16_byte(a: [u8; 16], i: usize, v: u8) -> [u8; 16]
-    ensures { λ r. ⌜ r ≡ set a i v ⌝ }
-{
-    let mut b = a;
-    store_byte(&mut b, i, v);
-    b
-}
-
 // At most n elements from `at` on: those that there are.
 pub fn part(s: &[u32], at: usize, n: usize) -> &[u32]
     ensures { λ r. ⌜ now r ≡ take n (drop at (now (s .entry))) ⌝ }

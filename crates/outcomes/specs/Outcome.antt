@@ -8,21 +8,21 @@ use Prim.Native.Nat.{ℕ, zero, suc, _+_, _-_, _*_, _/_}
 use lib.Dec.{eqb, ltb, leb}
 use lib.ListN.{length, set, take, drop, replicate}
 use lib.Seq.{sets}
-use Rattle.lists.specs.Lists.{bit, pick, keep, joined, from, upTo}
+use Rattle.lists.specs.Lists.{bit, pick, joined, from}
 use Rattle.model.specs.Model.{Answer, Call, declare, newRegion, subregion, push, dropFrame, handBack, allocate, first, copy, fetch, clear, load, setPointer, put, get, view, same, about, report, totals, audit, delete, four, gives, refusedBy}
 use Rattle.model.specs.Calls.{reason, _yields_, makes}
 use Rattle.frames.specs.declared.Frames.{Frames}
-use Rattle.frames.specs.Frames.{frameCount, topFrame, widthAt, slotAt, putSlot, pushed, uncounts, popped, raised}
+use Rattle.frames.specs.Frames.{frameCountIn, topFrame, widthAt, slotAt, putSlot, pushed, uncounts, popped, raised}
 use Rattle.kinds.specs.declared.Kinds.{Kinds}
 use Rattle.kinds.specs.Kinds.{kindCount, sizeOf, withKind, wrongMarks, allData as onlyData}
 use Rattle.regions.specs.declared.Regions.{Regions}
-use Rattle.regions.specs.Regions.{nameOf, entryOf, tagOf, isLive, liveCount, subregionsOf, levelAt, newestAt, oldestAt, countAt, unused, withRegion, withoutRegion, withPage, withCounts, moved}
+use Rattle.regions.specs.Regions.{nameOf, entryOf, tagOf, isLive, liveCount, subregionsOf, levelAt, newestAt, oldestAt, countAt, unused, withRegion, withoutRegion, withPage, recount}
 use Rattle.pages.specs.declared.Pages.{Pages}
-use Rattle.pages.specs.Pages.{wrongLength, pageCount, ownerAt, takenAt, ownerOf, isFree, pagesOf, withTaken, freed}
-use Rattle.objects.specs.Objects.{kindOf, wordCount, markOf, wordAt, freeWordsOn, outOf}
+use Rattle.pages.specs.Pages.{wrongLength, takenAt, ownerOf, isFree, pagesOf, withTaken, freed}
+use Rattle.objects.specs.Objects.{kindOf, wordCount, markOf, wordAt, freeWordsOf, outOf}
 use Rattle.state.specs.declared.State.{State}
 use Rattle.state.specs.declared.Reply.{Reply}
-use Rattle.outcomes.specs.Store.{Store, frames, kinds, regions, pages, slot, outsideOf, ledInto, slotTargets, breaks, size, roomy}
+use Rattle.outcomes.specs.Store.{Store, frames, kinds, regions, pages, slot, outsideOf, ledInto, targetsIn, slotTargets, breaks, size, roomy}
 use Rattle.outcomes.specs.Sound.{Sound}
 
 -- what a call gives back, and the part that view hands back ([] for every other call), as an answer of the reference model
@@ -132,7 +132,7 @@ writeWord S v w x = withHeap S (set (S .heap) (v + w) x)
 
 -- pointers into the regions `come` are counted too, pointers into the regions `gone` no more
 unfoldable pub recounted : Store → List ℕ → List ℕ → Store
-recounted S come gone = withRegions S (withCounts (regions S) (moved ((regions S) .counts) come gone))
+recounted S come gone = withRegions S (recount (regions S) come gone)
 
 -- the regions that a pointer v is counted in, held by a word marked k of an object of the region with tag h: none for its own, and none unless k is 1
 unfoldable pub countedIn : Store → ℕ → ℕ → ℕ → List ℕ
@@ -169,11 +169,14 @@ allocated S s i k j =
 
 -- the regions that the words marked 1 on the pages of the region with tag t lead into, but for that region itself
 unfoldable pub outgoing : Store → ℕ → List ℕ
-outgoing S t = outOf ((pages S) .owners) t (joined (freeWordsOn (kinds S) (S .heap) (pages S)) (keep (λ j. eqb (ownerAt (pages S) j) t) (upTo (pageCount (pages S)))))
+outgoing S t = outOf ((pages S) .owners) t (freeWordsOf (kinds S) (S .heap) (pages S) t)
 
--- the regions that the slots of the frames lead into that are counted once m is raised: those below the top that were not
+-- the regions that the slots of the frames lead into that are counted once m is raised: those below the top that were not; by the lists alone, and in a store
+unfoldable pub newlyIn : ℕ → ℕ → List ℕ → List ℕ → List ℕ → List ℕ
+newlyIn standing counted widths slots owners = joined (targetsIn widths slots owners) (from counted (frameCountIn standing - 1 - counted))
+
 unfoldable pub newlyCounted : Store → List ℕ
-newlyCounted S = let m = (frames S) .counted in joined (slotTargets S) (from m (frameCount (frames S) - 1 - m))
+newlyCounted S = let f = frames S in newlyIn (f .standing) (f .counted) (f .widths) (f .slots) ((pages S) .owners)
 
 -- the outgoing pointers leave the counts, those newly counted enter them, the pages are free, the entry is given up, m is raised; the heap stays (document 01, Delete)
 unfoldable pub deleted : Store → ℕ → Store
@@ -225,8 +228,9 @@ Accepted (view s) S a T = Leaves a (viewed S (slot S s)) T S
 Accepted (same s t) S a T = Leaves a (gives (bit (eqb (slot S s) (slot S t)) ∷ [])) T S
 Accepted (about s) S a T = Leaves a (gives (nameOf (regions S) (ownerOf (pages S) (slot S s)) ∷ kindOf (S .heap) (slot S s) ∷ [])) T S
 Accepted (report r) S a T =
+    let i = entryOf (regions S) r in
     let t = tagOf (regions S) r in
-    Leaves a (gives (countAt (regions S) (entryOf (regions S) r) ∷ outsideOf S t ∷ pagesOf (pages S) t ∷ subregionsOf (regions S) t ∷ [])) T S
+    Leaves a (gives (countAt (regions S) i ∷ outsideOf S i ∷ pagesOf (pages S) t ∷ subregionsOf (regions S) t ∷ [])) T S
 Accepted totals S a T = Leaves a (gives (pagesOf (pages S) 0 ∷ liveCount (regions S) ∷ (frames S) .standing ∷ (frames S) .counted ∷ [])) T S
 Accepted audit S a T = Audited S a × (T ≡ S)
 Accepted (delete r) S a T = Leaves a (gives (pagesOf (pages S) (tagOf (regions S) r) ∷ [])) T (deleted S r)

@@ -3,19 +3,19 @@
 -- Assumes nothing.
 use mathlib.Core.Bool.{Bool, not, _||_}
 use mathlib.Core.List.{List, map}
-use Prim.Native.Nat.{ℕ, _+_, _-_}
+use Prim.Native.Nat.{ℕ, _+_, _-_, _%_}
 use lib.Dec.{eqb, leb}
-use Rattle.lists.specs.Lists.{pick, sum, count, any, from, upTo}
+use Rattle.lists.specs.Lists.{sum, any, from, upTo, times, among}
 use Rattle.model.specs.Model.{rule}
 use Rattle.frames.specs.declared.Frames.{Frames}
-use Rattle.frames.specs.Frames.{frameCount, topFrame, widthAt, slotAt}
+use Rattle.frames.specs.Frames.{frameCountIn, topFrame, widthIn, slotIn, slotAt}
 use Rattle.kinds.specs.declared.Kinds.{Kinds}
 use Rattle.kinds.specs.Kinds.{sizeOf}
 use Rattle.regions.specs.declared.Regions.{Regions}
-use Rattle.regions.specs.Regions.{nameOf, parentAt, newestAt}
+use Rattle.regions.specs.Regions.{nameOf, parentAt, newestAt, countAt}
 use Rattle.pages.specs.declared.Pages.{Pages}
-use Rattle.pages.specs.Pages.{pageCount, ownerAt, takenAt, ownerOf}
-use Rattle.objects.specs.Objects.{markOf, freeWordsOn}
+use Rattle.pages.specs.Pages.{takenAt, ownerIn, ownerOf}
+use Rattle.objects.specs.Objects.{markOf}
 use Rattle.state.specs.declared.State.{State}
 
 pub record Store : Type 0 where
@@ -38,27 +38,39 @@ pages S = S .state .pages
 unfoldable pub slot : Store → ℕ → ℕ
 slot S s = slotAt (frames S) (topFrame (frames S)) s
 
+-- the tags of the regions that the slots of frame i lead into: by the lists alone, for code that is lent these, and in a store
+unfoldable pub targetsIn : List ℕ → List ℕ → List ℕ → ℕ → List ℕ
+targetsIn widths slots owners i = map (λ s. ownerIn owners (slotIn slots i s)) (upTo (widthIn widths i))
+
+unfoldable pub slotTargets : Store → ℕ → List ℕ
+slotTargets S i = targetsIn ((frames S) .widths) ((frames S) .slots) ((pages S) .owners) i
+
 -- how many slots of frame i lead into the region with tag t
 unfoldable pub slotsInto : Store → ℕ → ℕ → ℕ
-slotsInto S t i = count (λ s. eqb (ownerOf (pages S) (slotAt (frames S) i s)) t) (upTo (widthAt (frames S) i))
+slotsInto S t i = times t (slotTargets S i)
 
--- how many words marked 1 on page j lead into the region with tag t: none if the page is free or is that region's
-unfoldable pub wordsInto : Store → ℕ → ℕ → ℕ
-wordsInto S t j = pick (eqb (ownerAt (pages S) j) 0 || eqb (ownerAt (pages S) j) t) 0 (count (λ v. eqb (ownerOf (pages S) v) t) (freeWordsOn (kinds S) (S .heap) (pages S) j))
+-- the uncounted frames: those from m on (document 01, The calls)
+abbrev pub uncountedIn : ℕ → ℕ → List ℕ
+uncountedIn standing counted = from counted (frameCountIn standing - counted)
 
--- a region's outside pointers (document 01, The store)
+-- how many slots of the uncounted frames lead into the region with tag t
+unfoldable pub slotsBeyondIn : ℕ → ℕ → List ℕ → List ℕ → List ℕ → ℕ → ℕ
+slotsBeyondIn standing counted widths slots owners t = sum (λ i. times t (targetsIn widths slots owners i)) (uncountedIn standing counted)
+
+unfoldable pub slotsBeyond : Store → ℕ → ℕ
+slotsBeyond S t = let f = frames S in slotsBeyondIn (f .standing) (f .counted) (f .widths) (f .slots) ((pages S) .owners) t
+
+-- the number of outside pointers that report gives of the region at entry i: its stored count has those in words and counted frames, and the others stand in
+-- uncounted frames (document 01, The store). Modulo 2^32, which on audited memory no such number reaches
 unfoldable pub outsideOf : Store → ℕ → ℕ
-outsideOf S t = sum (slotsInto S t) (upTo (frameCount (frames S))) + sum (wordsInto S t) (upTo (pageCount (pages S)))
+outsideOf S i = (countAt (regions S) i + slotsBeyond S (i + 1)) % 4294967296
 
 -- some slot of an uncounted frame leads into the region with tag t: the look of Delete
-unfoldable pub ledInto : Store → ℕ → Bool
-ledInto S t =
-    let m = (frames S) .counted in
-    any (λ i. any (λ s. eqb (ownerOf (pages S) (slotAt (frames S) i s)) t) (upTo (widthAt (frames S) i))) (from m (frameCount (frames S) - m))
+unfoldable pub ledIn : ℕ → ℕ → List ℕ → List ℕ → List ℕ → ℕ → Bool
+ledIn standing counted widths slots owners t = any (λ i. among t (targetsIn widths slots owners i)) (uncountedIn standing counted)
 
--- the tags of the regions that the slots of frame i lead into
-unfoldable pub slotTargets : Store → ℕ → List ℕ
-slotTargets S i = map (λ s. ownerOf (pages S) (slotAt (frames S) i s)) (upTo (widthAt (frames S) i))
+unfoldable pub ledInto : Store → ℕ → Bool
+ledInto S t = let f = frames S in ledIn (f .standing) (f .counted) (f .widths) (f .slots) ((pages S) .owners) t
 
 -- the value x breaks the mark of word w of the object that v leads to (document 01, The store, on marks)
 unfoldable pub breaks : Store → ℕ → ℕ → ℕ → Bool
