@@ -14,19 +14,22 @@ use Rattle.lists.specs.Laws.Tests.{neither, both}
 use Rattle.lists.specs.Laws.All.{all-map, all-set, all-replicate}
 use Rattle.lists.specs.Laws.Finds.{any-false}
 use Rattle.model.specs.Model.{Answer, Call, declare, newRegion, subregion, push, dropFrame, handBack, allocate, first, copy, fetch, clear, load, setPointer, put, get, view, same, about, report, totals, audit, delete, gives}
+use Rattle.frames.specs.declared.Frames.{Frames}
 use Rattle.frames.specs.Frames.{topFrame}
+use Rattle.kinds.specs.declared.Kinds.{Kinds}
 use Rattle.kinds.specs.Kinds.{kindCount, sizeOf, wrongMarks}
 use Rattle.regions.specs.declared.Regions.{Regions}
 use Rattle.regions.specs.Regions.{entryOf, tagOf, isLive, newestAt, oldestAt, levelAt}
+use Rattle.pages.specs.declared.Pages.{Pages}
 use Rattle.pages.specs.Pages.{pageCount, isFree, takenAt}
 use Rattle.outcomes.specs.Store.{Store, frames, kinds, regions, pages, slot, size, roomy}
 use Rattle.outcomes.specs.Sound.{Sound}
-use Rattle.outcomes.specs.Shape.{RegionsShaped, Shaped}
-use Rattle.outcomes.specs.Outcome.{Outcome, Accepted, Answered, Audited, Chosen, refusal, checks, dead, namesOut, fillSlot, writeWord, recounted, pointed, popFrame, allocated, deleted}
+use Rattle.outcomes.specs.Shape.{FramesShaped, KindsShaped, RegionsShaped, PagesShaped, Shaped}
+use Rattle.outcomes.specs.Outcome.{Outcome, Accepted, Answered, Audited, Chosen, refusal, checks, dead, namesOut, withFrames, withKinds, withRegions, withPages, withHeap, fillSlot, writeWord, recounted, pointed, popFrame, allocated, outgoing, newlyCounted, deleted}
 use Rattle.outcomes.specs.Promises.{KeepsShape}
 use Rattle.outcomes.specs.Laws.Decided.{sound-or-not}
 use Rattle.outcomes.specs.Laws.Passed.{passed}
-use Rattle.outcomes.specs.Laws.Shaped.{array-at, all-sets, pick-below, slot-below, put-slot, push-frame, pop-frame, raise-mark, with-kind, with-region, without-region, with-page, with-moved, with-taken, free-pages}
+use Rattle.outcomes.specs.Laws.Shaped.{array-at, all-sets, pick-below, slot-below, put-slot, push-frame, pop-frame, raise-mark, with-kind, with-region, without-region, with-page, recount-shaped, with-taken, free-pages}
 use Rattle.outcomes.specs.Laws.Values.{size-most, outside-below, word-below, kind-below, live-below, subregions-below, pages-below, name-below, count-below, oldest-below}
 
 abbrev Small : List ℕ → Type 0
@@ -41,12 +44,30 @@ one x h = (h, (omega arith, (omega arith, (omega arith, tt))))
 four-small : (x y z w : ℕ) → x < 4294967296 → y < 4294967296 → z < 4294967296 → w < 4294967296 → Small (gives (x ∷ y ∷ z ∷ w ∷ []) .values)
 four-small x y z w h k l m = (h, (k, (l, (m, tt))))
 
+-- ---- a store with another part
+
+module _ (S : Store) (h : Shaped S) where
+  with-frames-shaped : (f : Frames) → FramesShaped f → Shaped (withFrames S f)
+  with-frames-shaped f k = record { inFrames = k; inKinds = h .inKinds; inRegions = h .inRegions; inPages = h .inPages; heap = h .heap }
+
+  with-kinds-shaped : (k : Kinds) → KindsShaped k → Shaped (withKinds S k)
+  with-kinds-shaped n k = record { inFrames = h .inFrames; inKinds = k; inRegions = h .inRegions; inPages = h .inPages; heap = h .heap }
+
+  with-regions-shaped : (g : Regions) → RegionsShaped g → Shaped (withRegions S g)
+  with-regions-shaped g k = record { inFrames = h .inFrames; inKinds = h .inKinds; inRegions = k; inPages = h .inPages; heap = h .heap }
+
+  with-pages-shaped : (p : Pages) → PagesShaped p → Shaped (withPages S p)
+  with-pages-shaped p k = record { inFrames = h .inFrames; inKinds = h .inKinds; inRegions = h .inRegions; inPages = k; heap = h .heap }
+
+  with-heap-shaped : (l : List ℕ) → Small l → Shaped (withHeap S l)
+  with-heap-shaped l k = record { inFrames = h .inFrames; inKinds = h .inKinds; inRegions = h .inRegions; inPages = h .inPages; heap = k }
+
 -- ---- the steps that several calls share
 
 module _ (S : Store) (h : Shaped S) where
   filled : (s v : ℕ) → v < 4294967296 → Shaped (fillSlot S s v)
   unfolding fillSlot
-  filled s v b = record { inFrames = put-slot (frames S) (h .inFrames) (topFrame (frames S)) s v b; inKinds = h .inKinds; inRegions = h .inRegions; inPages = h .inPages; heap = h .heap }
+  filled s v b = with-frames-shaped S h _ (put-slot (frames S) (h .inFrames) (topFrame (frames S)) s v b)
 
   slot-small : (s : ℕ) → slot S s < 4294967296
   unfolding slot
@@ -54,31 +75,27 @@ module _ (S : Store) (h : Shaped S) where
 
   written : (v w x : ℕ) → x < 4294967296 → Shaped (writeWord S v w x)
   unfolding writeWord
-  written v w x b = record { inFrames = h .inFrames; inKinds = h .inKinds; inRegions = h .inRegions; inPages = h .inPages; heap = all-set (λ x. x < 4294967296) (S .heap) (v + w) x (h .heap) b }
+  written v w x b = with-heap-shaped S h _ (all-set (λ x. x < 4294967296) (S .heap) (v + w) x (h .heap) b)
 
-  moved-shape : (come gone : List ℕ) → Shaped (recounted S come gone)
+  recounted-shape : (come gone : List ℕ) → Shaped (recounted S come gone)
   unfolding recounted
-  moved-shape come gone = record { inFrames = h .inFrames; inKinds = h .inKinds; inRegions = with-moved (regions S) (h .inRegions) come gone; inPages = h .inPages; heap = h .heap }
+  recounted-shape come gone = with-regions-shaped S h _ (recount-shaped (regions S) (h .inRegions) come gone)
 
   popped-shape : Shaped (popFrame S)
-  unfolding popFrame recounted
-  popped-shape = let m = moved-shape [] _ in record { inFrames = pop-frame (frames S) (h .inFrames); inKinds = h .inKinds; inRegions = m .inRegions; inPages = h .inPages; heap = h .heap }
-
-  pointed-shape : (v w x : ℕ) → x < 4294967296 → Shaped (pointed S v w x)
-  unfolding pointed writeWord recounted
-  pointed-shape v w x b = let m = moved-shape _ _ in record { inFrames = h .inFrames; inKinds = h .inKinds; inRegions = m .inRegions; inPages = h .inPages; heap = all-set (λ x. x < 4294967296) (S .heap) (v + w) x (h .heap) b }
+  unfolding popFrame
+  popped-shape = with-frames-shaped _ (recounted-shape [] _) _ (pop-frame (frames S) (h .inFrames))
 
   deleted-shape : (r : ℕ) → Shaped (deleted S r)
-  unfolding deleted recounted
+  unfolding deleted
   deleted-shape r =
-      let m = moved-shape _ _ in
-      record {
-        inFrames = raise-mark (frames S) (h .inFrames);
-        inKinds = h .inKinds;
-        inRegions = without-region _ (m .inRegions) (entryOf (regions S) r);
-        inPages = free-pages (pages S) (h .inPages) (tagOf (regions S) r);
-        heap = h .heap;
-      }
+      let T = recounted S (newlyCounted S) (outgoing S (tagOf (regions S) r)) in
+      let m = recounted-shape (newlyCounted S) (outgoing S (tagOf (regions S) r)) in
+      let g = with-regions-shaped T m _ (without-region (regions T) (m .inRegions) (entryOf (regions S) r)) in
+      with-frames-shaped _ (with-pages-shaped _ g _ (free-pages (pages S) (h .inPages) (tagOf (regions S) r))) _ (raise-mark (frames S) (h .inFrames))
+
+pointed-shape : (S : Store) → Shaped S → (v w x : ℕ) → x < 4294967296 → Shaped (pointed S v w x)
+unfolding pointed
+pointed-shape S h v w x b = written _ (recounted-shape S h _ _) v w x b
 
 entry-below : (S : Store) (r : ℕ) → dead S r ≡ false → entryOf (regions S) r < 64
 unfolding dead isLive
@@ -133,19 +150,16 @@ place-fits S i n j h b c = go (roomy S i n) refl c
     go false q c = (omega (arith, free-below S j c), omega arith)
 
 allocated-shape : (S : Store) (s i k j : ℕ) → Shaped S → i < 64 → k ≤ 16 → Chosen S i (size S k) j → Shaped (allocated S s i k j)
-unfolding allocated fillSlot
+unfolding allocated
 allocated-shape S s i k j h b m c =
     let f = place-fits S i (size S k) j h (size-below S k) c in
     let start = pick (roomy S i (size S k)) (takenAt (pages S) j) 0 in
     let o = oldestAt (regions S) i in
     let v : 64 * j + start + 1 < 4294967296 = omega (arith, f .0, f .1) in
-    record {
-      inFrames = put-slot (frames S) (h .inFrames) (topFrame (frames S)) s (64 * j + start + 1) v;
-      inKinds = h .inKinds;
-      inRegions = with-page (regions S) (h .inRegions) i (j + 1) (pick (eqb o 0) (64 * j + start + 1) o) (f .0) (pick-below (eqb o 0) (64 * j + start + 1) o 4294967296 v (oldest-below (regions S) (h .inRegions) i));
-      inPages = with-taken (pages S) (h .inPages) j (i + 1) (start + size S k) (omega arith) (omega (arith, f .1));
-      heap = all-sets (λ x. x < 4294967296) (k ∷ replicate (sizeOf (kinds S) k) 0) (S .heap) (64 * j + start) (h .heap) (omega arith, all-replicate (λ x. x < 4294967296) (sizeOf (kinds S) k) 0 (omega arith));
-    }
+    let x = with-heap-shaped S h _ (all-sets (λ x. x < 4294967296) (k ∷ replicate (sizeOf (kinds S) k) 0) (S .heap) (64 * j + start) (h .heap) (omega arith, all-replicate (λ x. x < 4294967296) (sizeOf (kinds S) k) 0 (omega arith))) in
+    let y = with-pages-shaped _ x _ (with-taken (pages S) (h .inPages) j (i + 1) (start + size S k) (omega arith) (omega (arith, f .1))) in
+    let z = with-regions-shaped _ y _ (with-page (regions S) (h .inRegions) i (j + 1) (pick (eqb o 0) (64 * j + start + 1) o) (f .0) (pick-below (eqb o 0) (64 * j + start + 1) o 4294967296 v (oldest-below (regions S) (h .inRegions) i))) in
+    filled _ z s (64 * j + start + 1) v
 
 -- ---- every call
 
@@ -167,25 +181,25 @@ accepted-keeps (declare ms) S a T x h e q =
     let m = neither (eqb (length ms) 0 || ltb 16 (length ms)) (any (ltb 4) ms) (t .1 .0) in
     let n = neither (eqb (length ms) 0) (ltb 16 (length ms)) (m .0) in
     let k = with-kind (kinds S) ms (h .inKinds) d (ltb-false 16 (length ms) (n .1)) (all-map (λ m f. ltb-false 4 m f) ms (any-false (ltb 4) ms (m .1))) in
-    both-of a _ T _ q (record { inFrames = h .inFrames; inKinds = k; inRegions = h .inRegions; inPages = h .inPages; heap = h .heap }) (one ((kinds S) .declared + 1) (omega arith))
+    both-of a _ T _ q (with-kinds-shaped S h _ k) (one ((kinds S) .declared + 1) (omega arith))
 accepted-keeps newRegion S a T x h e q =
     let t = passed S newRegion e in
     let g = leb-false 1000000 ((regions S) .given) (t .1 .1 .0) in
     let r = with-region (regions S) (h .inRegions) _ 0 1 g (omega arith) (omega arith) in
-    both-of a _ T _ q (record { inFrames = h .inFrames; inKinds = h .inKinds; inRegions = r; inPages = h .inPages; heap = h .heap }) (one ((regions S) .given + 1) (omega arith))
+    both-of a _ T _ q (with-regions-shaped S h _ r) (one ((regions S) .given + 1) (omega arith))
 accepted-keeps (subregion p) S a T x h e q =
     let t = passed S (subregion p) e in
     let i = entry-below S p (t .1 .0) in
     let l = leb-false 16 (levelAt (regions S) (entryOf (regions S) p)) (t .1 .1 .0) in
     let g = leb-false 1000000 ((regions S) .given) (t .1 .1 .1 .1 .0) in
     let r = with-region (regions S) (h .inRegions) _ (tagOf (regions S) p) (levelAt (regions S) (entryOf (regions S) p) + 1) g (tag-below (regions S) p i) (omega arith) in
-    both-of a _ T _ q (record { inFrames = h .inFrames; inKinds = h .inKinds; inRegions = r; inPages = h .inPages; heap = h .heap }) (one ((regions S) .given + 1) (omega arith))
+    both-of a _ T _ q (with-regions-shaped S h _ r) (one ((regions S) .given + 1) (omega arith))
 accepted-keeps (push n) S a T x h e q =
     let t = passed S (push n) e in
     let b = ltb-false 8 n (neither (eqb n 0) (ltb 8 n) (t .1 .0) .1) in
     let d = leb-false 32 ((frames S) .standing) (t .1 .1 .0) in
     let f = push-frame (frames S) (h .inFrames) n d b in
-    both-of a _ T _ q (record { inFrames = f; inKinds = h .inKinds; inRegions = h .inRegions; inPages = h .inPages; heap = h .heap }) (one ((frames S) .standing + 1) (omega arith))
+    both-of a _ T _ q (with-frames-shaped S h _ f) (one ((frames S) .standing + 1) (omega arith))
 accepted-keeps dropFrame S a T x h e q = both-of a _ T _ q (popped-shape S h) (one (topFrame (frames S)) (top-below S h))
 accepted-keeps (handBack s b) S a T x h e q = both-of a _ T _ q (filled (popFrame S) (popped-shape S h) b (slot S s) (slot-small S h s)) (one (topFrame (frames S)) (top-below S h))
 accepted-keeps (allocate s r k) S a T x h e q =
@@ -210,7 +224,7 @@ accepted-keeps (same s t) S a T x h e q = both-of a _ T _ q h (one _ (bit-below 
 accepted-keeps (about s) S a T x h e q = both-of a _ T _ q h (four-small _ _ 0 0 (name-below (regions S) (h .inRegions) _) (kind-below S h (slot S s)) (omega arith) (omega arith))
 accepted-keeps (report r) S a T x h e q =
     let t = tagOf (regions S) r in
-    both-of a _ T _ q h (four-small _ _ _ _ (count-below (regions S) (h .inRegions) _) (outside-below S h t) (omega (arith, pages-below (pages S) t)) (omega (arith, subregions-below (regions S) t)))
+    both-of a _ T _ q h (four-small _ _ _ _ (count-below (regions S) (h .inRegions) _) (outside-below S _) (omega (arith, pages-below (pages S) t)) (omega (arith, subregions-below (regions S) t)))
 accepted-keeps totals S a T x h e q =
     both-of a _ T _ q h (four-small _ _ _ _ (omega (arith, pages-below (pages S) 0)) (omega (arith, live-below (regions S))) (h .inFrames .standing) (h .inFrames .counted))
 accepted-keeps audit S a T x h e q = (subst⁻¹ Shaped (q .1) h, audit-small S a (q .0))

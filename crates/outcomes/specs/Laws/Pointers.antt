@@ -16,15 +16,24 @@ use Rattle.lists.specs.Laws.Sums.{sum-map, sum-keep, sum-same, sum-joined}
 use Rattle.lists.specs.Laws.UpTo.{getD-map-upTo, length-map-upTo, sum-below}
 use Rattle.lists.specs.Laws.Every.{every-map, every-keep, every-below}
 use Rattle.model.specs.Model.{marks}
-use Rattle.frames.specs.Frames.{frameCount, widthAt, slotAt}
+use Rattle.frames.specs.Frames.{frameCount, widthAt, slotAt, widthIn, slotIn}
 use Rattle.kinds.specs.Kinds.{kindCount, sizeOf, markAt, sizeIn}
 use Rattle.regions.specs.Regions.{nameAt, nameOf, nameIn}
 use Rattle.pages.specs.Pages.{pageCount, ownerAt, ownerIn, ownerOf}
 use Rattle.objects.specs.Objects.{headersOn, freeWords, freeWordsOn}
-use Rattle.outcomes.specs.Store.{Store, frames, kinds, regions, pages, slotsInto, wordsInto}
+use Rattle.outcomes.specs.Store.{Store, frames, kinds, regions, pages, slotsInto, slotTargets, targetsIn}
 use Rattle.outcomes.specs.History.{Object, Word, begin, listedKinds, listedFrames, slotsOf, pointersOf, leads, homeOf}
 use Rattle.outcomes.specs.History as history
 use Rattle.outcomes.specs.Laws.Begin.{holderOf, headersOf, headers, objectAt, begin-objects, page-of, leads-is, leads-null, home-is, home-none, name-same}
+
+-- how many words marked 1 on page j lead into the region with tag t: none if the page is free or is that region's
+unfoldable pub wordsInto : Store → ℕ → ℕ → ℕ
+wordsInto S t j = pick (eqb (ownerAt (pages S) j) 0 || eqb (ownerAt (pages S) j) t) 0 (count (λ v. eqb (ownerOf (pages S) v) t) (freeWordsOn (kinds S) (S .heap) (pages S) j))
+
+-- the slots of frame i that lead into the region with tag t, slot by slot
+pub slots-sum : (S : Store) (t i : ℕ) → slotsInto S t i ≡ count (λ s. eqb (ownerOf (pages S) (slotAt (frames S) i s)) t) (upTo (widthAt (frames S) i))
+unfolding slotsInto slotTargets targetsIn ownerOf slotAt widthAt
+slots-sum S t i = sum-map (λ o. bit (eqb o t)) (λ s. ownerIn ((pages S) .owners) (slotIn ((frames S) .slots) i s)) (upTo (widthIn ((frames S) .widths) i))
 
 module _ (S : Store) where
   -- ---- marks and slots
@@ -152,9 +161,9 @@ module _ (S : Store) (h : Ordered S) where
   module _ (i : ℕ) (n : nameAt (regions S) i ≢ 0) where
     pub slots-into : (f : ℕ) → f < frameCount (frames S) → ((s : ℕ) → s < widthAt (frames S) f → Known (slotAt (frames S) f s))
         → history.slotsLeadingTo (begin S) S (nameAt (regions S) i) f ≡ slotsInto S (suc i) f
-    unfolding history.slotsLeadingTo slotsInto slotsOf begin
+    unfolding history.slotsLeadingTo slotsOf begin
     slots-into f l k =
-        rw (width-is S f l)
+        rw (width-is S f l, slots-sum S (suc i) f)
         (sum-map (λ v. bit (eqb (homeOf (begin S) v) (nameAt (regions S) i))) (slotAt (frames S) f) (upTo (widthAt (frames S) f))
         ∙ sum-below _ _ (widthAt (frames S) f) (λ s m. ap bit (home-tag (slotAt (frames S) f s) i (k s m) n)))
 

@@ -12,11 +12,11 @@ use Rattle.lists.specs.Lists.{pick, All, upTo, times}
 use Rattle.lists.specs.Laws.All.{all-map, all-at, all-set, all-replicate, all-change}
 use Rattle.lists.specs.Laws.UpTo.{length-map-upTo, all-upTo}
 use Rattle.frames.specs.declared.Frames.{Frames}
-use Rattle.frames.specs.Frames.{topFrame, slotAt, putSlot, pushed, uncounts, popped, raised}
+use Rattle.frames.specs.Frames.{topFrame, slotAt, putSlot, pushed, uncountsIn, popped, raised}
 use Rattle.kinds.specs.declared.Kinds.{Kinds}
 use Rattle.kinds.specs.Kinds.{withKind}
 use Rattle.regions.specs.declared.Regions.{Regions}
-use Rattle.regions.specs.Regions.{rolled, moved, withRegion, withoutRegion, withPage, withCounts}
+use Rattle.regions.specs.Regions.{rolled, moved, withRegion, withoutRegion, withPage, withCounts, recount}
 use Rattle.pages.specs.declared.Pages.{Pages}
 use Rattle.pages.specs.Pages.{pageCount, ownerAt, withTaken, freed}
 use Rattle.outcomes.specs.Shape.{Array, FramesShaped, KindsShaped, RegionsShaped, PagesShaped}
@@ -69,7 +69,7 @@ module _ (f : Frames) (h : FramesShaped f) where
   unfolding popped topFrame
   pop-frame = record {
     standing = omega (arith, h .standing);
-    counted = pick-below (uncounts f) (f .counted - 1) (f .counted) 4294967296 (omega (arith, h .counted)) (h .counted);
+    counted = pick-below (uncountsIn (f .standing) (f .counted)) (f .counted - 1) (f .counted) 4294967296 (omega (arith, h .counted)) (h .counted);
     widths = h .widths;
     slots = h .slots;
   }
@@ -123,9 +123,9 @@ module _ (r : Regions) (h : RegionsShaped r) where
     oldest = array-set 64 4294967296 (r .oldest) (h .oldest) i v y;
   }
 
-  pub with-moved : (come gone : List ℕ) → RegionsShaped (withCounts r (moved (r .counts) come gone))
-  unfolding withCounts moved rolled
-  with-moved come gone = record {
+  pub recount-shaped : (come gone : List ℕ) → RegionsShaped (recount r come gone)
+  unfolding recount withCounts moved rolled
+  recount-shaped come gone = record {
     given = h .given;
     names = h .names;
     parents = h .parents;

@@ -1,44 +1,35 @@
 -- What a call gives fits 32 bits.
 -- Assumes nothing.
-use mathlib.Core.Bool.{Bool, true, false, not, _&&_, _||_}
+use mathlib.Core.Bool.{Bool, true, false, not, _&&_}
 use mathlib.Core.List.{List, [], _∷_}
 use Prim.Native.Nat.{ℕ, zero, suc, _+_, _-_, _*_, _≤_, _<_, min}
 use native.Mathlib.Nat.{suc-mul}
 use native.Mathlib.Omega.{arith}
 use lib.Dec.{eqb, ltb, leb}
 use lib.ListN.{length, getD, length-map, length-append}
-use Rattle.lists.specs.Lists.{pick, sum, count, joined, from, upTo}
+use Rattle.lists.specs.Lists.{pick, joined, upTo}
 use Rattle.lists.specs.Laws.Sums.{count-most, length-keep}
 use Rattle.lists.specs.Laws.UpTo.{length-upTo}
 use Rattle.lists.specs.Laws.All.{all-at}
-use Rattle.frames.specs.Frames.{frameCount, widthAt, slotAt}
 use Rattle.kinds.specs.declared.Kinds.{Kinds}
-use Rattle.kinds.specs.Kinds.{sizeOf, kindCount, markAt, sizeIn}
+use Rattle.kinds.specs.Kinds.{sizeOf, markAt}
 use Rattle.regions.specs.declared.Regions.{Regions}
 use Rattle.regions.specs.Regions.{nameAt, nameOf, parentAt, liveCount, subregionsOf, countAt, oldestAt, liveIn, nameIn, subregionsIn}
 use Rattle.pages.specs.declared.Pages.{Pages}
-use Rattle.pages.specs.Pages.{pageCount, ownerAt, takenAt, ownerOf, pagesOf, pagesIn}
+use Rattle.pages.specs.Pages.{ownerAt, takenAt, pagesOf, pagesIn}
 use Rattle.objects.specs.Objects.{kindOf, wordAt, walk, headersTo, headersOn, freeWords, freeWordsOn}
-use Rattle.outcomes.specs.Store.{Store, frames, kinds, pages, slotsInto, wordsInto, outsideOf}
+use Rattle.objects.specs.Laws.Words as sizes
+use Rattle.outcomes.specs.Store.{Store, outsideOf}
 use Rattle.outcomes.specs.Shape.{RegionsShaped, Shaped}
 use Rattle.outcomes.specs.Laws.Shaped.{array-at, pick-below}
-
--- a sum of n numbers, none above b
-sum-most : (f : ℕ → ℕ) (b k n : ℕ) → ((i : ℕ) → f i ≤ b) → sum f (from k n) ≤ n * b
-sum-most f b k zero h = omega arith
-sum-most f b k (suc n) h = rw (suc-mul n b) (omega (arith, h k, sum-most f b (suc k) n h))
 
 joined-most : (g : ℕ → List ℕ) (b : ℕ) (l : List ℕ) → ((x : ℕ) → length (g x) ≤ b) → length (joined g l) ≤ length l * b
 joined-most g b [] h = omega arith
 joined-most g b (x ∷ xs) h = rw (suc-mul (length xs) b, length-append) (omega (arith, h x, joined-most g b xs h))
 
 pub size-most : (k : Kinds) (n : ℕ) → sizeOf k n ≤ 16
-unfolding sizeOf sizeIn kindCount
-size-most k n = go (ltb 0 n && leb n (kindCount k))
-  where
-    go : (b : Bool) → pick b (min (getD (k .sizes) (n - 1) 0) 16) 0 ≤ 16
-    go true = omega arith
-    go false = omega arith
+unfolding sizeOf
+size-most k n = sizes.size-most (k .declared) (k .sizes) n
 
 walk-most : (k : Kinds) (heap : List ℕ) (n p e : ℕ) → length (walk k heap n p e) ≤ n
 unfolding walk
@@ -64,24 +55,11 @@ page-most k heap p j =
 
 -- ---- what the calls read
 
+pub outside-below : (S : Store) (i : ℕ) → outsideOf S i < 4294967296
+unfolding outsideOf
+outside-below S i = omega arith
+
 module _ (S : Store) (h : Shaped S) where
-  slots-most : (t i : ℕ) → slotsInto S t i ≤ 255
-  unfolding slotsInto widthAt
-  slots-most t i = omega (arith, count-most (λ s. eqb (ownerOf (pages S) (slotAt (frames S) i s)) t) (upTo (getD ((frames S) .widths) i 0)), length-upTo (getD ((frames S) .widths) i 0), array-at 32 256 ((frames S) .widths) (h .inFrames .widths) i (omega arith))
-
-  words-most : (t j : ℕ) → wordsInto S t j ≤ 1024
-  unfolding wordsInto
-  words-most t j = go (eqb (ownerAt (pages S) j) 0 || eqb (ownerAt (pages S) j) t)
-    where
-      go : (b : Bool) → pick b 0 (count (λ v. eqb (ownerOf (pages S) v) t) (freeWordsOn (kinds S) (S .heap) (pages S) j)) ≤ 1024
-      go true = omega arith
-      go false = omega (arith, count-most (λ v. eqb (ownerOf (pages S) v) t) (freeWordsOn (kinds S) (S .heap) (pages S) j), page-most (kinds S) (S .heap) (pages S) j)
-
-  pub outside-below : (t : ℕ) → outsideOf S t < 4294967296
-  unfolding outsideOf frameCount pageCount
-  outside-below t =
-      omega (arith, sum-most (slotsInto S t) 255 0 (min ((frames S) .standing) 32) (slots-most t), sum-most (wordsInto S t) 1024 0 (min ((pages S) .made) 256) (words-most t))
-
   pub word-below : (v w : ℕ) → wordAt (S .heap) v w < 4294967296
   unfolding wordAt
   word-below v w = all-at (λ x. x < 4294967296) (S .heap) (v + w) 0 (h .heap) (omega arith)
@@ -99,7 +77,7 @@ unfolding subregionsOf subregionsIn nameAt parentAt
 subregions-below g t = omega (arith, count-most (λ i. not (eqb (nameAt g i) 0) && eqb (parentAt g i) t) (upTo 64), length-upTo 64)
 
 pub pages-below : (p : Pages) (t : ℕ) → pagesOf p t ≤ 256
-unfolding pagesOf pageCount pagesIn ownerAt
+unfolding pagesOf pagesIn ownerAt
 pages-below p t = omega (arith, count-most (λ j. eqb (ownerAt p j) t) (upTo (min (p .made) 256)), length-upTo (min (p .made) 256))
 
 module _ (g : Regions) (h : RegionsShaped g) where
