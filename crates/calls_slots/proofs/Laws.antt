@@ -5,42 +5,38 @@ use mathlib.Core.Bool.{not, or-comm}
 use mathlib.Core.List.{[], _∷_}
 use Prim.Native.Nat.{ℕ, _≤_, _<_}
 use lib.Dec.{ltb}
-use lib.ListN.{length}
 use borrow.Author.Tests.{le-ltb, lt-ltb}
 use Rattle.model.specs.Model.{first, copy, fetch, clear, same, about}
 use Rattle.model.specs.Calls.{reason, _yields_}
-use Rattle.outcomes.specs.Store.{Store, frames, pages}
+use Rattle.outcomes.specs.Store.{Store}
 use Rattle.outcomes.specs.Outcome.{refusal, checks, dead, lacks, lacksBeneath, badLength, oneFrame}
-use Rattle.checks.specs.Checks.{orElse, topTests, beneathTests}
-use Rattle.checks.specs.Laws.Tests.{one-slot, two-slots, slot-beneath, or-zero}
+use Rattle.checks.specs.Checks.{orElse}
+use Rattle.checks.specs.Laws.Tests.{top, beneath, one-slot, two-slots, slot-beneath, or-zero}
 
 module _ (S : Store) where
-  abbrev pub tests : ℕ → ℕ → ℕ
-  tests s t = reason (topTests (pages S) (length (S .heap)) (frames S) s t)
-
-  pub first-tests : (s r : ℕ) → refusal S (first s r) ≡ orElse (tests s s) (reason (dead S r yields 2 ∷ []))
+  pub first-tests : (s r : ℕ) → refusal S (first s r) ≡ orElse (reason (top S s s)) (reason (dead S r yields 2 ∷ []))
   unfolding refusal checks
   first-tests s r = one-slot S (dead S r yields 2 ∷ []) s
 
-  pub copy-tests : (s t : ℕ) → refusal S (copy s t) ≡ tests s t
+  pub copy-tests : (s t : ℕ) → refusal S (copy s t) ≡ reason (top S s t)
   unfolding refusal checks
-  copy-tests s t = two-slots S [] s t ∙ or-zero (tests s t)
+  copy-tests s t = two-slots S [] s t ∙ or-zero (reason (top S s t))
 
-  pub fetch-tests : (b s : ℕ) → refusal S (fetch b s) ≡ reason (beneathTests (pages S) (length (S .heap)) (frames S) s b)
+  pub fetch-tests : (b s : ℕ) → refusal S (fetch b s) ≡ reason (beneath S s b)
   unfolding refusal checks
-  fetch-tests b s = ap (λ x. reason (badLength S yields 21 ∷ oneFrame S yields 6 ∷ x yields 9 ∷ [])) (or-comm (lacksBeneath S b) (lacks S s)) ∙ slot-beneath S [] s b ∙ or-zero (reason (beneathTests (pages S) (length (S .heap)) (frames S) s b))
+  fetch-tests b s = ap (λ x. reason (badLength S yields 21 ∷ oneFrame S yields 6 ∷ x yields 9 ∷ [])) (or-comm (lacksBeneath S b) (lacks S s)) ∙ slot-beneath S [] s b ∙ or-zero (reason (beneath S s b))
 
-  pub clear-tests : (s : ℕ) → refusal S (clear s) ≡ tests s s
+  pub clear-tests : (s : ℕ) → refusal S (clear s) ≡ reason (top S s s)
   unfolding refusal checks
-  clear-tests s = one-slot S [] s ∙ or-zero (tests s s)
+  clear-tests s = one-slot S [] s ∙ or-zero (reason (top S s s))
 
-  pub same-tests : (s t : ℕ) → refusal S (same s t) ≡ tests s t
+  pub same-tests : (s t : ℕ) → refusal S (same s t) ≡ reason (top S s t)
   unfolding refusal checks
-  same-tests s t = two-slots S [] s t ∙ or-zero (tests s t)
+  same-tests s t = two-slots S [] s t ∙ or-zero (reason (top S s t))
 
-  pub about-tests : (s : ℕ) → refusal S (about s) ≡ tests s s
+  pub about-tests : (s : ℕ) → refusal S (about s) ≡ reason (top S s s)
   unfolding refusal checks
-  about-tests s = one-slot S [] s ∙ or-zero (tests s s)
+  about-tests s = one-slot S [] s ∙ or-zero (reason (top S s s))
 
 -- the test of a live region, as the entry found decides it
 pub refuses : (i j : ℕ) → i ≡ j → 64 ≤ i → reason (not (ltb j 64) yields 2 ∷ []) ≡ 2

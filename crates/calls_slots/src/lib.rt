@@ -11,71 +11,103 @@ ghost use Rattle.outcomes.specs.Outcome.{Outcome, answerOf, store};
 pub fn first(s: State, heap: &[u32], slot: u32, region: u32) -> Done
     ensures { λ r. ⌜ Outcome (first slot region) (store s (now (heap .entry))) (answerOf (r .reply) []) (store (r .state) (now (heap .entry))) ⌝ }
 {
-    let p = s.pages;
-    let f = s.frames;
-    let e = s.regions;
-    let g = checks::top_refusal(p, heap.len(), f, slot, slot);
+    let mut t = s;
+    let n = t.frames.standing;
+    let g = checks::top_refusal(t.pages.made, heap.len(), n, &t.frames.widths, slot, slot);
     if g != 0 {
-        return checks::refusing(s, g);
+        return Done {
+            state: t,
+            reply: checks::refused(g),
+        };
     }
-    let i = regions::entry_of(e, region);
+    let i = regions::entry_of(&t.regions.names, region);
     if 64 <= i {
-        return checks::refusing(s, 2);
+        return Done {
+            state: t,
+            reply: checks::refused(2),
+        };
     }
-    checks::filled(s, slot, regions::oldest_at(e, i))
+    let v = regions::oldest_at(&t.regions.oldest, i);
+    frames::put_slot(&mut t.frames.slots, frames::top(n), slot, v);
+    Done {
+        state: t,
+        reply: checks::gives(0, 0, 0, 0),
+    }
 }
 
 // Document 01's call 10: slot `to` gets what slot `from` holds.
 pub fn copy(s: State, heap: &[u32], from: u32, to: u32) -> Done
     ensures { λ r. ⌜ Outcome (copy from to) (store s (now (heap .entry))) (answerOf (r .reply) []) (store (r .state) (now (heap .entry))) ⌝ }
 {
-    let p = s.pages;
-    let f = s.frames;
-    let g = checks::top_refusal(p, heap.len(), f, from, to);
+    let mut t = s;
+    let n = t.frames.standing;
+    let g = checks::top_refusal(t.pages.made, heap.len(), n, &t.frames.widths, from, to);
     if g != 0 {
-        return checks::refusing(s, g);
+        return Done {
+            state: t,
+            reply: checks::refused(g),
+        };
     }
-    checks::filled(s, to, checks::top_slot(f, from))
+    let v = checks::top_slot(n, &t.frames.slots, from);
+    frames::put_slot(&mut t.frames.slots, frames::top(n), to, v);
+    Done {
+        state: t,
+        reply: checks::gives(0, 0, 0, 0),
+    }
 }
 
 // Document 01's call 11: slot `to` gets what slot `from` of the frame beneath holds.
 pub fn fetch(s: State, heap: &[u32], from: u32, to: u32) -> Done
     ensures { λ r. ⌜ Outcome (fetch from to) (store s (now (heap .entry))) (answerOf (r .reply) []) (store (r .state) (now (heap .entry))) ⌝ }
 {
-    let p = s.pages;
-    let f = s.frames;
-    let g = checks::beneath_refusal(p, heap.len(), f, to, from);
+    let mut t = s;
+    let n = t.frames.standing;
+    let g = checks::beneath_refusal(t.pages.made, heap.len(), n, &t.frames.widths, to, from);
     if g != 0 {
-        return checks::refusing(s, g);
+        return Done {
+            state: t,
+            reply: checks::refused(g),
+        };
     }
-    checks::filled(s, to, checks::beneath_slot(f, from))
+    let v = checks::beneath_slot(n, &t.frames.slots, from);
+    frames::put_slot(&mut t.frames.slots, frames::top(n), to, v);
+    Done {
+        state: t,
+        reply: checks::gives(0, 0, 0, 0),
+    }
 }
 
 // Document 01's call 12: the slot becomes null.
 pub fn clear(s: State, heap: &[u32], slot: u32) -> Done
     ensures { λ r. ⌜ Outcome (clear slot) (store s (now (heap .entry))) (answerOf (r .reply) []) (store (r .state) (now (heap .entry))) ⌝ }
 {
-    let p = s.pages;
-    let f = s.frames;
-    let g = checks::top_refusal(p, heap.len(), f, slot, slot);
+    let mut t = s;
+    let n = t.frames.standing;
+    let g = checks::top_refusal(t.pages.made, heap.len(), n, &t.frames.widths, slot, slot);
     if g != 0 {
-        return checks::refusing(s, g);
+        return Done {
+            state: t,
+            reply: checks::refused(g),
+        };
     }
-    checks::filled(s, slot, 0)
+    frames::put_slot(&mut t.frames.slots, frames::top(n), slot, 0);
+    Done {
+        state: t,
+        reply: checks::gives(0, 0, 0, 0),
+    }
 }
 
 // Document 01's call 18: 1 if two slots hold one pointer, or both null; else 0.
 pub fn same(s: State, heap: &[u32], a: u32, b: u32) -> Reply
     ensures { λ r. ⌜ Outcome (same a b) (store s (now (heap .entry))) (answerOf r []) (store s (now (heap .entry))) ⌝ }
 {
-    let p = s.pages;
     let f = s.frames;
-    let g = checks::top_refusal(p, heap.len(), f, a, b);
+    let g = checks::top_refusal(s.pages.made, heap.len(), f.standing, &f.widths, a, b);
     if g != 0 {
         return checks::refused(g);
     }
-    let x = checks::top_slot(f, a);
-    let y = checks::top_slot(f, b);
+    let x = checks::top_slot(f.standing, &f.slots, a);
+    let y = checks::top_slot(f.standing, &f.slots, b);
     if x == y {
         return checks::gives(1, 0, 0, 0);
     }
@@ -86,16 +118,16 @@ pub fn same(s: State, heap: &[u32], a: u32, b: u32) -> Reply
 pub fn about(s: State, heap: &[u32], slot: u32) -> Reply
     ensures { λ r. ⌜ Outcome (about slot) (store s (now (heap .entry))) (answerOf r []) (store s (now (heap .entry))) ⌝ }
 {
-    let p = s.pages;
     let f = s.frames;
-    let g = checks::top_refusal(p, heap.len(), f, slot, slot);
+    let g = checks::top_refusal(s.pages.made, heap.len(), f.standing, &f.widths, slot, slot);
     if g != 0 {
         return checks::refused(g);
     }
-    let v = checks::top_slot(f, slot);
+    let v = checks::top_slot(f.standing, &f.slots, slot);
+    let p = s.pages;
     let e = s.regions;
-    let n = regions::name_of(e, checks::tag_of(p, v));
-    checks::gives(n, objects::kind_of(heap, v), 0, 0)
+    let n = regions::name_of(&e.names, pages::owner_of(&p.owners, v));
+    checks::gives(n, objects::kind_of(objects::object_of(heap, v)), 0, 0)
 }
 
 // Document 01's call 21: no heap is read, so it says the same whatever the heap.
@@ -105,8 +137,8 @@ pub fn totals(s: State) -> Reply
     let p = s.pages;
     let e = s.regions;
     checks::gives(
-        pages::pages_of(p, 0),
-        regions::live_count(e),
+        pages::pages_of(p.made, &p.owners, 0),
+        regions::live_count(&e.names),
         s.frames.standing,
         s.frames.counted,
     )

@@ -68,14 +68,7 @@ fn leave_word(owners: &[u8], counts: &mut [u32], own: u32, v: u32)
 }
 
 // The counts without those of an object's first n words that are marked 1.
-fn leave_words(
-    marks: &[u8],
-    object: &[u32],
-    n: u32,
-    owners: &[u8],
-    counts: &mut [u32],
-    own: u32,
-)
+fn leave_words(marks: &[u8], object: &[u32], n: u32, owners: &[u8], counts: &mut [u32], own: u32)
     ensures { λ _. ⌜ now (counts .exit) ≡ leavings (now (counts .entry)) (outOf (now (owners .entry)) own (marked (now (marks .entry)) (now (object .entry)) n)) ⌝ }
 {
     let mut w: u32 = 0;

@@ -31,11 +31,11 @@ loop-again c =
     let m = c .before .mark-of .ensures in (
       omega arith,
       ⊎-elim
-      (λ w.
-      rw (marked-one (a .marks .now) (a .object .now) (l .loop .w) (sym m ∙ w .0 .taken), ← left-left (a .owners .now) (a .own) (a .counts .now) (marked (a .marks .now) (a .object .now) (l .loop .w)) (wordIn (a .object .now) (l .loop .w) ∷ []), ← l .loop .inv .1)
-      (w .6 ∙ w .3 .ensures ∙ ap (λ v. leavings (l .loop .counts) (outOf (a .owners .now) (a .own) (v ∷ []))) (w .2 .ensures)))
-      (λ w. rw (marked-not (a .marks .now) (a .object .now) (l .loop .w) (λ q. w .0 .left (m ∙ q))) (w .1 ∙ l .loop .inv .1))
-      (c .if1 .came),
+          (λ w.
+          rw (marked-one (a .marks .now) (a .object .now) (l .loop .w) (sym m ∙ w .0 .taken), ← left-left (a .owners .now) (a .own) (a .counts .now) (marked (a .marks .now) (a .object .now) (l .loop .w)) (wordIn (a .object .now) (l .loop .w) ∷ []), ← l .loop .inv .1)
+          (w .6 ∙ w .3 .ensures ∙ ap (λ v. leavings (l .loop .counts) (outOf (a .owners .now) (a .own) (v ∷ []))) (w .2 .ensures)))
+          (λ w. rw (marked-not (a .marks .now) (a .object .now) (l .loop .w) (λ q. w .0 .left (m ∙ q))) (w .1 ∙ l .loop .inv .1))
+          (c .if1 .came),
     )
 
 returns : tie.Need-returns Inv-loop μ-loop
