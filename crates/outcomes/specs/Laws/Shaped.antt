@@ -1,6 +1,6 @@
 -- An outcome is a value of the language's types, part by part.
 -- Assumes nothing.
-use mathlib.Core.Path.{_∙_}
+use mathlib.Core.Path.{_≡_, _∙_}
 use mathlib.Core.Bool.{Bool, true, false, _&&_}
 use mathlib.Core.List.{List, [], _∷_, map}
 use Prim.Native.Nat.{ℕ, suc, _+_, _-_, _*_, _%_, _≤_, _<_}
@@ -16,7 +16,8 @@ use Rattle.frames.specs.Frames.{topFrame, slotAt, putSlot, pushed, uncountsIn, 
 use Rattle.kinds.specs.declared.Kinds.{Kinds}
 use Rattle.kinds.specs.Kinds.{withKind}
 use Rattle.regions.specs.declared.Regions.{Regions}
-use Rattle.regions.specs.Regions.{rolled, moved, withRegion, withoutRegion, withPage, withCounts, recount}
+use Rattle.regions.specs.Regions.{countAt, rolled, moved, withRegion, withoutRegion, withPage, withCounts, recount}
+use Rattle.regions.specs.Laws.Added.{count-new}
 use Rattle.pages.specs.declared.Pages.{Pages}
 use Rattle.pages.specs.Pages.{pageCount, ownerAt, withTaken, freed}
 use Rattle.outcomes.specs.Shape.{Array, FramesShaped, KindsShaped, RegionsShaped, PagesShaped}
@@ -98,6 +99,9 @@ module _ (r : Regions) (h : RegionsShaped r) where
     newest = array-set 64 65536 (r .newest) (h .newest) i 0 (omega arith);
     oldest = array-set 64 4294967296 (r .oldest) (h .oldest) i 0 (omega arith);
   }
+
+  pub none-counted : (i t l : ℕ) → i < 64 → countAt (withRegion r i t l) i ≡ 0
+  none-counted i t l b = count-new r i t l (omega (arith, h .counts .0))
 
   pub without-region : (i : ℕ) → RegionsShaped (withoutRegion r i)
   unfolding withoutRegion
