@@ -27,7 +27,7 @@ use Rattle.outcomes.specs.Outcome.{checks as storeChecks, refusal as storeRefus
 use Rattle.refinement.specs.Represents.{Represents, RoomAgrees, spot}
 use Rattle.refinement.specs.Laws.Tags.{live-is, live-count, parent-name, subregions-are}
 use Rattle.refinement.specs.Laws.Counts.{slots-beyond}
-use Rattle.refinement.specs.Laws.Reads.{frame-count, top-width, beneath-width, kind-count, right-length, top-known, slot-is, spot-zero, kind-is, size-is, mark-is, owner-name}
+use Rattle.refinement.specs.Laws.Reads.{top-width, beneath-width, kind-count, right-length, top-known, slot-is, spot-zero, kind-is, size-is, mark-is, owner-name}
 
 -- the first tests agree, and the rest do where the first fails
 step : (a b : Bool) (n x y : ℕ) → a ≡ b → (b ≡ false → x ≡ y) → pick a n x ≡ pick b n y
