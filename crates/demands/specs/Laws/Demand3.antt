@@ -10,6 +10,7 @@ use Rattle.lists.specs.Lists.{bit}
 use Rattle.lists.specs.Laws.Tests.{by-test}
 use Rattle.model.specs.Model.{Model, gives}
 use Rattle.model.specs.Calls.{fresh, after}
+use Rattle.model.specs.Laws.Paged.{outside-bound}
 use Rattle.outcomes.specs.Store.{Store, regions, pages}
 use Rattle.outcomes.specs.History.{History, begin}
 use Rattle.outcomes.specs.Outcome.{MakeOutcome}
@@ -55,7 +56,8 @@ unfolding Demand3
 demand3 S h s es T r =
     let b = start-told S h s in
     let k = run-told (b .2) r .1 in
-    holds (k .good .valid) (k .good .represents) (k .tells) (k .held)
+    let g = k .good in
+    holds (g .valid) (g .represents) (k .tells) (k .held) (outside-bound _ (g .valid) (g .paged) (g .few))
 
 pub stays-sound : StaysSound
 unfolding StaysSound AuditExact

@@ -1,10 +1,10 @@
--- Demand 3's statements hold of a store that represents a valid model and a history that tells of it.
+-- Demand 3's statements hold of a store that represents a valid model, whose counts are small, and a history that tells of it.
 -- Assumes nothing.
 use mathlib.Core.Path.{_≡_, sym, ap, _∙_, subst}
 use mathlib.Core.Logic.{_↔_, _≢_}
 use mathlib.Core.Bool.{true}
 use mathlib.Core.List.{List}
-use Prim.Native.Nat.{ℕ}
+use Prim.Native.Nat.{ℕ, _≤_}
 use native.Mathlib.Omega.{arith}
 use lib.ListN.{getD}
 use borrow.Author.Tests.{eqb-true, ne-eqb, not-false}
@@ -26,7 +26,7 @@ use Rattle.refinement.specs.Laws.Tells.{Tells, live-is, subregions-are}
 use Rattle.refinement.specs.Laws.Pointers.{slots-lead, words-lead, outside-is, uncounted-is}
 use Rattle.refinement.specs.Laws.TellsPages.{TellsPages, pages-held}
 
-module _ {L : Model} {sp : List ℕ} {ids : ℕ → List ℕ} {S : Store} {h : History} (v : Valid L) (rep : Represents L sp ids S) (t : Tells L sp h) (u : TellsPages h ((regions S) .names) (pages S)) where
+module _ {L : Model} {sp : List ℕ} {ids : ℕ → List ℕ} {S : Store} {h : History} (v : Valid L) (rep : Represents L sp ids S) (t : Tells L sp h) (u : TellsPages h ((regions S) .names) (pages S)) (small : (r : ℕ) → outside L r ≤ 16640) where
   outside-told : (r : ℕ) → history.outside h S r ≡ outside L r
   outside-told = outside-is S t v (rep .onFrames) (rep .onObjects)
 
@@ -36,7 +36,7 @@ module _ {L : Model} {sp : List ℕ} {ids : ℕ → List ℕ} {S : Store} {h : H
   reported r l a T o =
       let e : refusal L (report r) ≡ 0 = rw l in
       let q = subst (λ n. Answered n (report r) S a T) (refusals-agree v rep (report r) ∙ e) o in
-      let out = report.outside-is L sp ids S v (rep .onKinds) (rep .onRegions) (rep .onPages) (rep .onObjects) r l (rep .onFrames) in
+      let out = report.outside-is S v rep r l (small r) in
       (ap (λ a. a .refusal) (q .0), ap (λ a. getD (a .values) 0 0) (q .0), ap (λ a. getD (a .values) 1 0) (q .0) ∙ out ∙ sym (outside-told r))
 
   deleted : (r : ℕ) → livesIn L r ≡ true → r ≢ 1 → (a : Answer) (T : Store) → Outcome (delete r) S a T → (a .refusal ≡ 0) ↔ ((subregions h r ≡ 0) × (history.outside h S r ≡ 0))

@@ -19,7 +19,8 @@ use Rattle.model.specs.Laws.Passed.{passed}
 use Rattle.model.specs.Laws.Next.{next-valid}
 use Rattle.model.specs.Laws.Paged.{next-paged, stored-bound, outside-bound}
 use Rattle.frames.specs.Frames.{topFrame, slotAt, putSlot}
-use Rattle.regions.specs.Regions.{entryOf, tagOf, unused, withRegion, withoutRegion, withPage, withCounts}
+use Rattle.regions.specs.Regions.{entryOf, tagOf, unused, withRegion, withoutRegion, withPage}
+use Rattle.regions.specs.Laws.Recount.{recount-beside}
 use Rattle.pages.specs.Pages.{takenAt, withTaken}
 use Rattle.outcomes.specs.Store.{Store, frames, regions, pages, roomy, size}
 use Rattle.outcomes.specs.History.{History, begin}
@@ -53,6 +54,20 @@ pub record Told (N : ℕ) (L : Model) (S : Store) (h : History) : Type 0 where
   pub good : Good N L S
   pub tells : Tells L (good .places) h
   pub held : TellsPages h ((regions S) .names) (pages S)
+
+-- ---- names do not change with counts
+
+popped-names : (S : Store) → (regions (popFrame S)) .names ≡ (regions S) .names
+unfolding popFrame recounted
+popped-names S = recount-beside _ _ _ .names
+
+pointed-names : (S : Store) (v w x : ℕ) → (regions (pointed S v w x)) .names ≡ (regions S) .names
+unfolding pointed writeWord recounted
+pointed-names S v w x = recount-beside _ _ _ .names
+
+deleted-names : (S : Store) (r : ℕ) → (regions (deleted S r)) .names ≡ set ((regions S) .names) (entryOf (regions S) r) 0
+unfolding deleted recounted withoutRegion
+deleted-names S r = ap (λ l. set l (entryOf (regions S) r) 0) (recount-beside _ _ _ .names)
 
 -- ---- allocate: what the slot then shows
 
@@ -127,7 +142,7 @@ module _ {N : ℕ} {L : Model} {S : Store} {h : History} (k : Told N L S h) (a :
       )
 
   accepted-told : (c : Call) → refusal L c ≡ 0 → Accepted c S a T → After c T
-  unfolding Accepted accepted told fillSlot popFrame pointed writeWord recounted withCounts withRegion withoutRegion deleted popped born reply checks
+  unfolding Accepted accepted told fillSlot popFrame pointed writeWord recounted withRegion withoutRegion deleted popped born reply checks
   accepted-told (declare ms) e q = stays (declare ms) (declare-step L _ _ S v sh rep ms e a T q) (declare-told t ms) (rw (q .1) (same-pages refl refl refl u))
   accepted-told newRegion e q =
       let n = new-step L _ _ S v sh rep e a T q in
@@ -136,26 +151,26 @@ module _ {N : ℕ} {L : Model} {S : Store} {h : History} (k : Told N L S h) (a :
       let n = sub-step L _ _ S v sh rep r e a T q in
       stays (subregion r) n (rw (n .0) (region-told t v r _)) (rw (q .1) (born-pages (leb-false 64 (length (L .regions)) (passed L (subregion r) e .1 .1 .0)) _ _ r))
   accepted-told (push n) e q = stays (push n) (push-step L _ _ S v rep a T sh n e q) (push-told t n) (rw (q .1) (same-pages refl refl refl u))
-  accepted-told dropFrame e q = stays dropFrame (drop-step L _ _ S v rep a T small q) (pop-told t v) (rw (q .1) (same-pages refl refl refl u))
-  accepted-told (handBack s b) e q = stays (handBack s b) (hand-step L _ _ S v rep a T sh small s b e q) (fill-told (pop-told t v) b _) (rw (q .1) (same-pages refl refl refl u))
+  accepted-told dropFrame e q = stays dropFrame (drop-step L _ _ S v rep a T small q) (pop-told t v) (rw (q .1, popped-names S) (same-pages refl refl refl u))
+  accepted-told (handBack s b) e q = stays (handBack s b) (hand-step L _ _ S v rep a T sh small s b e q) (fill-told (pop-told t v) b _) (rw (q .1, popped-names S) (same-pages refl refl refl u))
   accepted-told (allocate s r k) e (b, (j, c, d)) = rw d (allocate-told s r k j e b c)
   accepted-told (first s r) e q = stays (first s r) (first-step L _ _ S v rep a T sh s r e q) (fill-told t s _) (rw (q .1) u)
   accepted-told (copy s d) e q = stays (copy s d) (copy-step L _ _ S v rep a T sh s d e q) (fill-told t d _) (rw (q .1) u)
   accepted-told (fetch b s) e q = stays (fetch b s) (fetch-step L _ _ S v rep a T sh b s e q) (fill-told t s _) (rw (q .1) u)
   accepted-told (clear s) e q = stays (clear s) (clear-step L _ _ S v rep a T sh s e q) (fill-told t s _) (rw (q .1) u)
   accepted-told (load s w d) e q = stays (load s w d) (load-step L _ _ S v rep a T sh s w d e q) (fill-told t d _) (rw (q .1) u)
-  accepted-told (setPointer s w x) e q = stays (setPointer s w x) (pointer-step L _ _ S v rep a T small s w x e q) (write-told t s w _) (rw (q .1) u)
+  accepted-told (setPointer s w x) e q = stays (setPointer s w x) (pointer-step L _ _ S v rep a T small s w x e q) (write-told t s w _) (rw (q .1, pointed-names S _ _ _) u)
   accepted-told (put s w x) e q = stays (put s w x) (put-step L _ _ S v rep a T s w x e q) (write-told t s w x) (rw (q .1) u)
   accepted-told (get s w) e q = stays (get s w) (get-step L _ _ S v rep a T s w e q) t (rw (q .1) u)
   accepted-told (view s) e q = stays (view s) (view-step L _ _ S v rep a T s e q) t (rw (q .1) u)
   accepted-told (same s d) e q = stays (same s d) (same-step L _ _ S v rep a T s d e q) t (rw (q .1) u)
   accepted-told (about s) e q = stays (about s) (about-step L _ _ S v rep a T s e q) t (rw (q .1) u)
-  accepted-told (report r) e q = stays (report r) (report-step L _ _ S v rep a T r e q) t (rw (q .1) u)
+  accepted-told (report r) e q = stays (report r) (report-step L _ _ S v rep a T r (outside-bound L v (g .paged) (g .few)) e q) t (rw (q .1) u)
   accepted-told totals e q = stays totals (totals-step L _ _ S v rep a T q) t (rw (q .1) u)
   accepted-told audit e q = stays audit (q .0 .0 (audited S v rep sh), rw (q .1) rep) t (rw (q .1) u)
   accepted-told (delete r) e q =
       stays (delete r) (delete-step L _ _ S v rep a T r sh (outside-bound L v (g .paged) (g .few)) e q) (remove-told t r)
-      (rw (q .1) (ended-pages (rep .onRegions) (rep .onPages) u r (not-false (livesIn L r) (passed L (delete r) e .0))))
+      (rw (q .1, deleted-names S r) (ended-pages (rep .onRegions) (rep .onPages) u r (not-false (livesIn L r) (passed L (delete r) e .0))))
 
 -- ---- any call
 

@@ -1,12 +1,12 @@
 -- An outcome is a value of the language's types, part by part.
 -- Assumes nothing.
-use mathlib.Core.Path.{_∙_}
+use mathlib.Core.Path.{_≡_, _∙_}
 use mathlib.Core.Bool.{Bool, true, false, _&&_}
 use mathlib.Core.List.{List, [], _∷_, map}
 use Prim.Native.Nat.{ℕ, suc, _+_, _-_, _*_, _%_, _≤_, _<_}
 use native.Mathlib.Omega.{arith}
 use lib.Dec.{eqb, ltb}
-use lib.ListN.{length, getD, set, replicate, length-set}
+use lib.ListN.{length, getD, set, replicate, length-set, length-replicate}
 use lib.Seq.{sets, length-sets}
 use Rattle.lists.specs.Lists.{pick, All, upTo, times}
 use Rattle.lists.specs.Laws.All.{all-map, all-at, all-set, all-replicate, all-change}
@@ -16,10 +16,12 @@ use Rattle.frames.specs.Frames.{topFrame, slotAt, putSlot, pushed, uncountsIn, 
 use Rattle.kinds.specs.declared.Kinds.{Kinds}
 use Rattle.kinds.specs.Kinds.{withKind}
 use Rattle.regions.specs.declared.Regions.{Regions}
-use Rattle.regions.specs.Regions.{rolled, moved, withRegion, withoutRegion, withPage, withCounts, recount}
+use Rattle.regions.specs.Regions.{countAt, rolled, moved, withRegion, withoutRegion, withPage, withCounts, recount}
+use Rattle.regions.specs.Laws.Added.{count-new}
 use Rattle.pages.specs.declared.Pages.{Pages}
 use Rattle.pages.specs.Pages.{pageCount, ownerAt, withTaken, freed}
-use Rattle.outcomes.specs.Shape.{Array, FramesShaped, KindsShaped, RegionsShaped, PagesShaped}
+use Rattle.outcomes.specs.Shape.{Array, FramesShaped, KindsShaped, RegionsShaped, PagesShaped, Shaped}
+use Rattle.outcomes.specs.Outcome.{store, blank}
 
 -- ---- arrays
 
@@ -99,6 +101,9 @@ module _ (r : Regions) (h : RegionsShaped r) where
     oldest = array-set 64 4294967296 (r .oldest) (h .oldest) i 0 (omega arith);
   }
 
+  pub none-counted : (i t l : ℕ) → i < 64 → countAt (withRegion r i t l) i ≡ 0
+  none-counted i t l b = count-new r i t l (omega (arith, h .counts .0))
+
   pub without-region : (i : ℕ) → RegionsShaped (withoutRegion r i)
   unfolding withoutRegion
   without-region i = record {
@@ -148,3 +153,29 @@ module _ (p : Pages) (h : PagesShaped p) where
         (λ j. pick-below (ltb j (pageCount p) && eqb (getD (p .owners) j 0) t) 0 (getD (p .owners) j 0) 256 (omega arith) (array-at 256 256 (p .owners) (h .owners) j (omega arith)));
     taken = h .taken;
   }
+
+-- ---- what make leaves
+
+pub blank-shaped : (n : ℕ) → n ≤ 256 → (heap : List ℕ) → All (λ x. x < 4294967296) heap → Shaped (store (blank n 1) heap)
+unfolding blank
+blank-shaped n most heap h = record {
+  inFrames = record { standing = omega arith; counted = omega arith; widths = blanks 32 256 (omega arith); slots = blanks 256 4294967296 (omega arith) };
+  inKinds = record { declared = omega arith; sizes = blanks 16 256 (omega arith); marks = blanks 256 256 (omega arith) };
+  inRegions = record {
+    given = omega arith;
+    names = first 4294967296 (omega arith);
+    parents = blanks 64 256 (omega arith);
+    levels = first 256 (omega arith);
+    counts = blanks 64 4294967296 (omega arith);
+    newest = blanks 64 65536 (omega arith);
+    oldest = blanks 64 4294967296 (omega arith);
+  };
+  inPages = record { made = omega arith; owners = blanks 256 256 (omega arith); taken = blanks 256 256 (omega arith) };
+  heap = h;
+}
+  where
+    blanks : (m top : ℕ) → 0 < top → Array m top (replicate m 0)
+    blanks m top h = (length-replicate m 0, all-replicate (λ x. x < top) m 0 h)
+
+    first : (top : ℕ) → 1 < top → Array 64 top (set (replicate 64 0) 0 1)
+    first top h = array-set 64 top (replicate 64 0) (blanks 64 top (omega arith)) 0 1 h

@@ -26,22 +26,24 @@ use Rattle.model.specs.Laws.Regions.{name-is, live-others, region-others, not-r
 use Rattle.model.specs.Laws.Deletes.{parent-away}
 use Rattle.model.specs.Laws.Counts.{outside-stored, remove-stored}
 use Rattle.frames.specs.declared.Frames.{Frames}
-use Rattle.frames.specs.Frames.{widthAt, slotAt, raised}
+use Rattle.frames.specs.Frames.{frameCount, widthAt, slotAt, raised}
 use Rattle.regions.specs.declared.Regions.{Regions}
-use Rattle.regions.specs.Regions.{nameAt, entryOf, tagOf, parentAt, levelAt, newestAt, oldestAt, countAt, withoutRegion, withCounts, moved, entryIn}
+use Rattle.regions.specs.Regions.{nameAt, entryOf, tagOf, parentAt, levelAt, newestAt, oldestAt, countAt, withoutRegion, recount}
+use Rattle.regions.specs.Laws.Recount.{recount-beside}
+use Rattle.regions.specs.Laws.Removed as removed
 use Rattle.regions.specs.Laws.Removed.{name-removed, name-left, entry-left, tag-left}
 use Rattle.pages.specs.declared.Pages.{Pages}
 use Rattle.pages.specs.Pages.{pageCount, ownerAt, ownerOf, freed}
 use Rattle.pages.specs.Laws.Gone.{gone-owner, gone-other, gone-pages, gone-held, gone-pointer, gone-free}
-use Rattle.objects.specs.Objects.{freeWordsOn, outOf}
+use Rattle.objects.specs.Objects.{freeWordsOn, freeWordsOf, outOf}
 use Rattle.outcomes.specs.Store.{Store, frames, kinds, regions, pages, slotTargets}
 use Rattle.outcomes.specs.Shape.{Shaped}
-use Rattle.outcomes.specs.Outcome.{Accepted, recounted, outgoing, newlyCounted, deleted}
+use Rattle.outcomes.specs.Outcome.{Accepted, withFrames, withRegions, withPages, recounted, outgoing, newlyIn, newlyCounted, deleted}
 use Rattle.refinement.specs.Represents.{spot, tagFor, Alive, wordsIn, FramesAgree, RegionsAgree, PagesAgree, RoomAgrees, Tiles, ObjectsAgree, Represents}
 use Rattle.refinement.specs.Laws.Tags.{tag-some, live-named, entry-in, entry-name, tag-same, tag-injective}
-use Rattle.refinement.specs.Laws.Kept.{regions-kept, pages-kept, objects-kept}
+use Rattle.refinement.specs.Laws.Kept.{same-entry, same-tag, regions-kept, pages-kept, objects-kept}
 use Rattle.refinement.specs.Laws.Reads.{frame-count, top-frame, page-count}
-use Rattle.refinement.specs.Laws.Counts.{count-moved, slots-into}
+use Rattle.refinement.specs.Laws.Counts.{count-is, slots-into}
 use Rattle.refinement.specs.Laws.Walks.{homes-on}
 use Rattle.refinement.specs.Laws.Report.{ids-objects, weight, page-words}
 
@@ -189,7 +191,7 @@ frames-raised a = record { standing = a .standing; counted = top-frame a; widths
 module _ {L : Model} {sp : List ℕ} {ids : ℕ → List ℕ} (S : Store) (v : Valid L) (h : Represents L sp ids S) (q : ℕ) (l : livesIn L q ≡ true) where
   -- what enters the count of q: the slots of the frames that become counted
   come-are : times (tagOf (regions S) q) (newlyCounted S) ≡ inFrames (homeIn L) q (newly L)
-  unfolding newlyCounted newly inFrames
+  unfolding newlyCounted newlyIn slotTargets frameCount newly inFrames
   come-are =
       let m = L .counted in
       let n = last (L .frames) in
@@ -207,7 +209,7 @@ module _ {L : Model} {sp : List ℕ} {ids : ℕ → List ℕ} (S : Store) (v : V
 
   -- what leaves it: the words of region r
   gone-are : (r : ℕ) → livesIn L r ≡ true → eqb q r ≡ false → times (tagOf (regions S) q) (outgoing S (tagOf (regions S) r)) ≡ fromRegion L r q
-  unfolding outgoing outOf ownerOf fromRegion
+  unfolding outgoing freeWordsOf outOf ownerOf fromRegion
   gone-are r m n =
       let P = pages S in
       let t = tagOf (regions S) r in
@@ -245,32 +247,38 @@ module _ {L : Model} {sp : List ℕ} {ids : ℕ → List ℕ} (S : Store) (v : V
       parts all low rest below top low₂ new a b c d = omega arith
 
   count-left : (r : ℕ) → livesIn L r ≡ true → eqb q r ≡ false → outside L q ≤ 16640
-      → getD (moved ((regions S) .counts) (newlyCounted S) (outgoing S (tagOf (regions S) r))) (entryOf (regions S) q) 0 ≡ stored (removeRegion L r) q
-  unfolding countAt
+      → countAt (recount (regions S) (newlyCounted S) (outgoing S (tagOf (regions S) r))) (entryOf (regions S) q) ≡ stored (removeRegion L r) q
   count-left r m n small =
       let e = remove-stored L r q m (eqb-sym r q ∙ n) v in
-      count-moved (h .onRegions) q l ((regions S) .counts) (newlyCounted S) (outgoing S (tagOf (regions S) r)) (stored (removeRegion L r) q)
+      count-is (h .onRegions) q l (newlyCounted S) (outgoing S (tagOf (regions S) r)) (stored (removeRegion L r) q)
       (ap (λ n. stored (removeRegion L r) q + n) (gone-are r m n) ∙ e ∙ sym (ap₂ _+_ (h .counts q l) come-are))
       (bound _ _ _ _ _ _ e come-most (outside-stored L q) small)
     where
       bound : (x f s n d o : ℕ) → x + f ≡ s + n → n ≤ d → o ≡ s + d → o ≤ 16640 → x < 4294967296
       bound x f s n d o a b c e = omega arith
 
+-- the regions g without entry i, the pages of the region with tag t free, m raised
+abbrev without : Store → Regions → ℕ → ℕ → Store
+without S g i t = withFrames (withPages (withRegions S (withoutRegion g i)) (freed (pages S) t)) (raised (frames S))
+
 pub delete-step : (L : Model) (sp : List ℕ) (ids : ℕ → List ℕ) (S : Store) → Valid L → Represents L sp ids S → (a : Answer) (T : Store) (r : ℕ) → Shaped S → ((q : ℕ) → outside L q ≤ 16640)
     → refusal L (delete r) ≡ 0 → Accepted (delete r) S a T → (a ≡ reply L (delete r)) × Represents (accepted L (delete r)) sp ids T
-unfolding checks Accepted reply accepted removeRegion deleted recounted withCounts withoutRegion nameAt entryOf tagOf countAt entryIn
+unfolding checks Accepted reply accepted removeRegion deleted recounted
 delete-step L sp ids S v h a T r shaped small e (x, y) =
     let t = passed L (delete r) e in
     let l = not-false (livesIn L r) (t .0) in
     let subs = eqb-true (subregions L r) 0 (not-false (eqb (subregions L r) 0) (t .1 .1 .0)) in
     let n = t .1 .0 in
-    let long = shaped .inRegions .names .0 in
-    let cs = moved ((regions S) .counts) (newlyCounted S) (outgoing S (tagOf (regions S) r)) in
-    let g = regions-kept L (L .kinds) (L .frames) (L .counted) (L .objects) (regions S) cs sp (h .onRegions) in
-    let p = pages-kept L (L .kinds) (L .frames) (L .counted) (L .objects) (regions S) cs (pages S) (length (S .heap)) (h .onPages) in
-    let o = objects-kept L (L .frames) (L .counted) (regions S) cs (h .onObjects) in (
+    let now = recount (regions S) (newlyCounted S) (outgoing S (tagOf (regions S) r)) in
+    let b = recount-beside (regions S) (newlyCounted S) (outgoing S (tagOf (regions S) r)) in
+    let long : length (now .names) ≡ 64 = ap length (b .names) ∙ shaped .inRegions .names .0 in
+    let g = regions-kept L (L .kinds) (L .frames) (L .counted) (L .objects) b sp (h .onRegions) in
+    let p = pages-kept L (L .kinds) (L .frames) (L .counted) (L .objects) b (pages S) (length (S .heap)) (h .onPages) in
+    let o = objects-kept L (L .frames) (L .counted) b (h .onObjects) in
+    -- by the entry and the tag of r beside the new counts, which are the same
+    let left : T ≡ without S now (entryOf now r) (tagOf now r) = y ∙ sym (ap₂ (without S now) (same-entry b r) (same-tag b r)) in (
       x ∙ rw (h .onPages .held r l),
-      rw y (record {
+      rw left (record {
         onFrames = frames-raised (h .onFrames);
         onKinds = h .onKinds;
         onRegions = regions-left v g long r l n subs;
@@ -278,6 +286,6 @@ delete-step L sp ids S v h a T r shaped small e (x, y) =
         onObjects = objects-left v g long r l n subs p o refl;
         counts = λ q k.
             let m = other v g long r l n subs q k in
-            ap (λ i. getD cs i 0) (entry-kept v g long r l n subs q k) ∙ count-left S v h q (m .0) r l (m .1) (small q);
+            removed.count-left now (entryOf now r) _ ∙ ap (countAt now) (entry-kept v g long r l n subs q k ∙ same-entry b q) ∙ count-left S v h q (m .0) r l (m .1) (small q);
       }),
     )

@@ -7,11 +7,11 @@ use mathlib.Core.List.{List, []}
 use Prim.Native.Nat.{ℕ, zero, suc, _*_, _/_, _%_, _≤_, _<_, min}
 use native.Mathlib.Omega.{arith}
 use lib.Dec.{eqb, leb}
-use lib.ListN.{length, getD, set, replicate, length-replicate}
+use lib.ListN.{length, getD, replicate, length-replicate}
 use borrow.Author.Tests.{eqb-true, leb-true, lt-ltb, lt-leb}
 use Rattle.lists.specs.Lists.{bit, pick, upTo}
 use Rattle.lists.specs.Laws.Tests.{both, pick-same}
-use Rattle.lists.specs.Laws.All.{all-replicate, all-set}
+use Rattle.lists.specs.Laws.All.{all-replicate}
 use Rattle.lists.specs.Laws.Sums.{sum-ones, sum-pick}
 use Rattle.lists.specs.Laws.UpTo.{sum-below, length-upTo}
 use Rattle.model.specs.Model.{Answer, region, marks, livesIn, homeIn, gives, stored, inWords, inFrames}
@@ -25,7 +25,8 @@ use Rattle.pages.specs.declared.Pages.{Pages}
 use Rattle.pages.specs.Pages.{pageCount, ownerAt, pagesOf, pagesIn}
 use Rattle.outcomes.specs.Store.{Store}
 use Rattle.outcomes.specs.Outcome.{store, blank, MakeOutcome}
-use Rattle.outcomes.specs.Shape.{Shaped, Array}
+use Rattle.outcomes.specs.Shape.{Shaped}
+use Rattle.outcomes.specs.Laws.Shaped.{blank-shaped}
 use Rattle.refinement.specs.Represents.{Represents, EntryAgrees, RoomAgrees}
 
 zeros : (n i : ℕ) → _≡_ {A = ℕ} (getD (replicate n 0) i 0) 0
@@ -104,30 +105,6 @@ module _ (n : ℕ) where
       unmarked zero w h = omega arith
       unmarked (suc m) w h = omega arith
 
-  pub fresh-shaped : n ≤ 256 → Shaped (store (blank n 1) (replicate (64 * n) 0))
-  unfolding blank
-  fresh-shaped high = record {
-    inFrames = record { standing = omega arith; counted = omega arith; widths = blanks 32 256 (omega arith); slots = blanks 256 4294967296 (omega arith) };
-    inKinds = record { declared = omega arith; sizes = blanks 16 256 (omega arith); marks = blanks 256 256 (omega arith) };
-    inRegions = record {
-      given = omega arith;
-      names = first 4294967296 (omega arith);
-      parents = blanks 64 256 (omega arith);
-      levels = first 256 (omega arith);
-      counts = blanks 64 4294967296 (omega arith);
-      newest = blanks 64 65536 (omega arith);
-      oldest = blanks 64 4294967296 (omega arith);
-    };
-    inPages = record { made = omega arith; owners = blanks 256 256 (omega arith); taken = blanks 256 256 (omega arith) };
-    heap = all-replicate (λ x. x < 4294967296) (64 * n) 0 (omega arith);
-  }
-    where
-      blanks : (m top : ℕ) → 0 < top → Array m top (replicate m 0)
-      blanks m top h = (length-replicate m 0, all-replicate (λ x. x < top) m 0 h)
-
-      first : (top : ℕ) → 1 < top → Array 64 top (set (replicate 64 0) 0 1)
-      first top h = (refl, all-set (λ x. x < top) (replicate 64 0) 0 1 (all-replicate (λ x. x < top) 64 0 (omega arith)) h)
-
 -- ---- make
 
 pub make-pages : (w : ℕ) → makes w ≡ true → (1 ≤ w / 64) × (w / 64 ≤ 256) × (64 * (w / 64) ≡ w)
@@ -151,4 +128,6 @@ module _ (heap : List ℕ) (a : Answer) (T : Store) (ok : makes (length heap) �
   make-represents = let m = make-pages (length heap) ok in rw (left .1) (fresh-represents (length heap / 64) (m .0) (m .1))
 
   pub make-shaped : Shaped T
-  make-shaped = rw (left .1) (fresh-shaped (length heap / 64) (make-pages (length heap) ok .1))
+  make-shaped =
+      let n = length heap / 64 in
+      rw (left .1) (blank-shaped n (make-pages (length heap) ok .1) (replicate (64 * n) 0) (all-replicate (λ x. x < 4294967296) (64 * n) 0 (omega arith)))

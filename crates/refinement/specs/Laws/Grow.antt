@@ -28,13 +28,15 @@ use Rattle.model.specs.Laws.Counts.{declare-stored, region-stored}
 use Rattle.kinds.specs.declared.Kinds.{Kinds}
 use Rattle.kinds.specs.Kinds.{kindCount, sizeOf, markAt, withKind, sizeIn}
 use Rattle.regions.specs.declared.Regions.{Regions}
-use Rattle.regions.specs.Regions.{nameAt, entryOf, tagOf, parentAt, levelAt, newestAt, oldestAt, countAt, unused, withRegion, withCounts}
-use Rattle.regions.specs.Laws.Added.{name-new, name-old, entry-old, entry-new}
+use Rattle.regions.specs.Regions.{nameAt, entryOf, tagOf, parentAt, levelAt, newestAt, oldestAt, countAt, unused, withRegion}
+use Rattle.regions.specs.Laws.Added.{name-new, name-old, entry-old, entry-new, count-old}
+use Rattle.regions.specs.Laws.Recount.{beside-same}
 use Rattle.pages.specs.declared.Pages.{Pages}
 use Rattle.pages.specs.Pages.{pageCount, ownerAt, pagesOf, pagesIn}
 use Rattle.outcomes.specs.Store.{Store, kinds, regions, pages}
 use Rattle.outcomes.specs.Shape.{Shaped, KindsShaped, RegionsShaped}
 use Rattle.outcomes.specs.Outcome.{Accepted, withRegions}
+use Rattle.outcomes.specs.Laws.Shaped.{none-counted}
 use Rattle.refinement.specs.Represents.{tagFor, KindsAgree, EntryAgrees, RegionsAgree, RoomAgrees, PagesAgree, Alive, idsIn, ObjectsAgree, Represents, Owned}
 use Rattle.refinement.specs.Laws.Tags.{Named, live-named, entry-name, entry-live, live-for, tag-for, parent-known, unused-free}
 use Rattle.refinement.specs.Laws.Kept.{regions-kept, pages-kept, tiles-kept}
@@ -90,21 +92,21 @@ module _ (ks : List (List ℕ)) (ms : List ℕ) (k : Kinds) (a : KindsAgree ks k
 module _ (L : Model) (sp : List ℕ) (ids : ℕ → List ℕ) (S : Store) (v : Valid L) (sh : Shaped S) (rep : Represents L sp ids S) where
   pub declare-step : (ms : List ℕ) → refusal L (declare ms) ≡ 0 → (a : Answer) (T : Store) → Accepted (declare ms) S a T
       → (a ≡ reply L (declare ms)) × Represents (accepted L (declare ms)) sp ids T
-  unfolding checks reply accepted Accepted withCounts
+  unfolding checks reply accepted Accepted
   declare-step ms e a T o =
       let c = passed L (declare ms) e in
       let q = neither (eqb (length ms) 0 || ltb 16 (length ms)) (any (ltb 4) ms) (c .0) in
       let few = leb-false 16 (length (L .kinds)) (c .1 .0) in
       let short = ltb-false 16 (length ms) (neither (eqb (length ms) 0) (ltb 16 (length ms)) (q .0) .1) in
       let ks = L .kinds ++ (ms ∷ []) in
-      let g = regions S in
+      let g = beside-same (regions S) in
       let b = rep .onObjects in (
         rw (← (rep .onKinds .declared)) (o .0),
         rw (o .1) (record {
           onFrames = rep .onFrames;
           onKinds = kinds-more (L .kinds) ms (kinds S) (rep .onKinds) (sh .inKinds) few short (λ n. all-at (λ l. length l ≤ 16) ([] ∷ L .kinds) n [] (omega arith, all-map (λ l h. h .1) (L .kinds) (v .kinds .sized)) (omega arith));
-          onRegions = regions-kept L ks (L .frames) (L .counted) (L .objects) g (g .counts) sp (rep .onRegions);
-          onPages = pages-kept L ks (L .frames) (L .counted) (L .objects) g (g .counts) (pages S) (length (S .heap)) (rep .onPages);
+          onRegions = regions-kept L ks (L .frames) (L .counted) (L .objects) g sp (rep .onRegions);
+          onPages = pages-kept L ks (L .frames) (L .counted) (L .objects) g (pages S) (length (S .heap)) (rep .onPages);
           onObjects = record {
             known = b .known;
             laid = λ p l. rw (marks-append (L .kinds) ms ((object (L .objects) p) .kind) (object-valid L v p l .kind .1)) (b .laid p l);
@@ -287,10 +289,9 @@ module _ (L : Model) (sp : List ℕ) (g : Regions) (v : Valid L) (a : RegionsAgr
 
   pub counts-more : ((r : ℕ) → livesIn L r ≡ true → countAt g (entryOf g r) ≡ stored L r)
       → (r : ℕ) → live (more L u l) r ≡ true → countAt (withRegion g i t l) (entryOf (withRegion g i t l) r) ≡ stored (addRegion L u l) r
-  unfolding countAt withRegion
   counts-more c r q = by-live (λ n. countAt (withRegion g i t l) (entryOf (withRegion g i t l) n) ≡ stored (addRegion L u l) n) r q
-      (λ k. rw (entry-same r k, region-stored L r v u l) (getD-set-other (g .counts) i (entryOf g r) 0 0 (entry-other r k) ∙ c r k))
-      (rw (entry-last, region-stored L (L .given + 1) v u l, stored-none L (L .given + 1) homes-past) (getD-set-same (g .counts) i 0 0 (omega (arith, sh .counts .0))))
+      (λ k. rw (entry-same r k, region-stored L r v u l) (count-old g i t l (entryOf g r) (entry-other r k) ∙ c r k))
+      (rw (entry-last, region-stored L (L .given + 1) v u l, stored-none L (L .given + 1) homes-past) (none-counted g sh i t l i-in))
 
 module _ (L : Model) (sp : List ℕ) (ids : ℕ → List ℕ) (S : Store) (v : Valid L) (sh : Shaped S) (rep : Represents L sp ids S) where
   -- a region more, below region u or below none

@@ -2,34 +2,32 @@
 -- Assumes nothing.
 use mathlib.Core.Path.{_≡_, refl, sym, ap, ap₂, _∙_, fun-ext}
 use mathlib.Core.Bool.{Bool, true, false, not, _&&_, _||_, true≢false, false≢true}
-use mathlib.Core.List.{List, []}
+use mathlib.Core.List.{List}
 use Prim.Native.Nat.{ℕ, zero, suc, _+_, _-_, _≤_}
 use native.Mathlib.Omega.{arith}
 use lib.Dec.{eqb, ltb, leb}
-use lib.ListN.{length, getD, drop}
-use lib.Seq.{take-length}
+use lib.ListN.{length, drop}
 use borrow.Author.Tests.{eqb-false, ne-eqb, leb-true, leb-false, ltb-false, le-leb, lt-leb, lt-ltb, not-false}
-use Rattle.lists.specs.Lists.{pick, any, every, sum, from, upTo, times}
+use Rattle.lists.specs.Lists.{pick, any, every, upTo, times}
 use Rattle.lists.specs.Laws.Tests.{by-test, neither, eqb-sym}
-use Rattle.lists.specs.Laws.Finds.{any-map, any-sum, any-count, every-same}
-use Rattle.lists.specs.Laws.Sums.{sum-same}
-use Rattle.lists.specs.Laws.UpTo.{all-from, all-upTo, sum-part, every-places}
+use Rattle.lists.specs.Laws.Finds.{any-sum, any-count, every-same}
+use Rattle.lists.specs.Laws.UpTo.{all-upTo, every-places}
 use Rattle.model.specs.Model.{Model, Call, declare, newRegion, subregion, push, dropFrame, handBack, allocate, first, copy, fetch, clear, load, setPointer, put, get, view, same, about, report, totals, audit, delete}
-use Rattle.model.specs.Model.{region, livesIn, homeIn, parentIn, top, beneath, slot, held, heldMarks, markAt, allowed, into, inFrames, stored, outside, subregions}
+use Rattle.model.specs.Model.{region, livesIn, homeIn, parentIn, top, beneath, slot, held, heldMarks, markAt, allowed, inFrames, stored, outside, subregions}
 use Rattle.model.specs.Calls.{checks, refusal, lacks, noFrame, oneFrame, null, noWord, dead, size, fits}
 use Rattle.model.specs.Valid.{Valid}
 use Rattle.model.specs.Laws.Slots.{held-lives}
 use Rattle.model.specs.Laws.Counts.{outside-stored}
-use Rattle.frames.specs.Frames.{widthAt, slotAt}
-use Rattle.kinds.specs.Kinds.{wrongMarks, allData as onlyData}
+use Rattle.kinds.specs.Kinds.{sizeOf, wrongMarks, allDataIn, allData as onlyData}
+use Rattle.kinds.specs.Kinds as kinds
 use Rattle.regions.specs.Regions.{countAt, nameOf, entryOf, tagOf, parentAt, newestAt}
 use Rattle.pages.specs.Pages.{takenAt, ownerOf}
-use Rattle.outcomes.specs.Store.{Store, frames, kinds, regions, pages, slot as storeSlot, slotTargets, ledInto, breaks, roomy, size as storeSize}
+use Rattle.outcomes.specs.Store.{Store, frames, kinds, regions, pages, slot as storeSlot, slotTargets, uncountedIn, slotsBeyondIn, slotsBeyond, ledIn, ledInto, breaks, roomy, size as storeSize}
 use Rattle.outcomes.specs.Outcome.{checks as storeChecks, refusal as storeRefusal, badLength, noFrame as storeNoFrame, oneFrame as storeOneFrame, lacks as storeLacks, lacksBeneath, dead as storeDead, full, namesOut, noWord as storeNoWord, isData, allData}
 use Rattle.refinement.specs.Represents.{Represents, RoomAgrees, spot}
 use Rattle.refinement.specs.Laws.Tags.{live-is, live-count, parent-name, subregions-are}
-use Rattle.refinement.specs.Laws.Counts.{slots-into}
-use Rattle.refinement.specs.Laws.Reads.{frame-count, top-width, beneath-width, kind-count, right-length, top-known, slot-is, spot-zero, kind-is, size-is, mark-is, owner-name}
+use Rattle.refinement.specs.Laws.Counts.{slots-beyond}
+use Rattle.refinement.specs.Laws.Reads.{top-width, beneath-width, kind-count, right-length, top-known, slot-is, spot-zero, kind-is, size-is, mark-is, owner-name}
 
 -- the first tests agree, and the rest do where the first fails
 step : (a b : Bool) (n x y : ℕ) → a ≡ b → (b ≡ false → x ≡ y) → pick a n x ≡ pick b n y
@@ -93,7 +91,7 @@ module _ {L : Model} {sp : List ℕ} {ids : ℕ → List ℕ} {S : Store} (v : V
     data-is w n = rw (slot-is h s k) (ap (λ m. eqb m 0) (mark-is (h .onObjects) (h .onKinds) v (slot L s) w (top-known v s) (leb-false (length ((held L s) .words)) w n)))
 
     all-data : allData S s ≡ every (eqb 0) (heldMarks L s)
-    unfolding allData onlyData
+    unfolding allData onlyData allDataIn sizeOf kinds.markAt
     all-data =
         rw (slot-is h s k, kind-is (h .onObjects) (slot L s) (top-known v s), h .onKinds .sizes ((held L s) .kind))
         (every-same _ _ (upTo (length (heldMarks L s))) (all-upTo _ (length (heldMarks L s)) (λ w b. rw (h .onKinds .marked ((held L s) .kind) w b) (eqb-sym (markAt L s w) 0)))
@@ -137,18 +135,13 @@ module _ {L : Model} {sp : List ℕ} {ids : ℕ → List ℕ} {S : Store} (v : V
 
   -- the look over the uncounted frames finds what the stored count lacks
   look-is : (r : ℕ) → livesIn L r ≡ true → ledInto S (tagOf (regions S) r) ≡ ltb 0 (inFrames (homeIn L) r (drop (L .counted) (L .frames)))
-  unfolding ledInto slotTargets inFrames
+  unfolding ledInto ledIn slotTargets slotsBeyond slotsBeyondIn
   look-is r l =
       let t = tagOf (regions S) r in
-      let fs = L .frames in
-      let m = L .counted in
-      let e : m + (length fs - m) ≡ length fs = omega (arith, v .frames .mark) in
-      ap₂ (λ k n. any (λ i. any (λ s. eqb (ownerOf (pages S) (slotAt (frames S) i s)) t) (upTo (widthAt (frames S) i))) (from k (n - k))) (h .onFrames .counted) (frame-count (h .onFrames) (v .frames .many))
-      ∙ ap (λ f. any f (from m (length fs - m))) (fun-ext (λ i.
-      sym (any-map (λ x. eqb x t) (λ s. ownerOf (pages S) (slotAt (frames S) i s)) (upTo (widthAt (frames S) i))) ∙ any-count (λ x. eqb x t) (slotTargets S i)))
-      ∙ any-sum (λ i. times t (slotTargets S i)) (from m (length fs - m))
-      ∙ ap (ltb 0) (sum-same _ (λ i. sum (into (homeIn L) r) (getD fs i [])) (from m (length fs - m)) (all-from _ m (length fs - m) (λ i a b. slots-into S v (h .onFrames) (h .onRegions) (h .onObjects) r l i (omega arith)))
-      ∙ sum-part (sum (into (homeIn L) r)) fs [] m (length fs - m) (length fs) e (omega arith) ∙ ap (λ x. sum (sum (into (homeIn L) r)) (drop m x)) (take-length fs))
+      let fs = uncountedIn ((frames S) .standing) ((frames S) .counted) in
+      ap (λ f. any f fs) (fun-ext (λ i. any-count (λ x. eqb x t) (slotTargets S i)))
+      ∙ any-sum (λ i. times t (slotTargets S i)) fs
+      ∙ ap (ltb 0) (slots-beyond S v (h .onFrames) (h .onRegions) (h .onObjects) r l)
 
   led-is : (r : ℕ) → livesIn L r ≡ true → (not (eqb (countAt (regions S) (entryOf (regions S) r)) 0) || ledInto S (tagOf (regions S) r)) ≡ not (eqb (outside L r) 0)
   led-is r l = rw (look-is r l, h .counts r l, outside-stored L r) (go (stored L r) (inFrames (homeIn L) r (drop (L .counted) (L .frames))))

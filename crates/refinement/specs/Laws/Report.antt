@@ -2,36 +2,35 @@
 -- Assumes nothing.
 use mathlib.Core.Path.{_≡_, refl, sym, ap, _∙_, fun-ext}
 use mathlib.Core.Logic.{inl, inr, _≢_}
-use mathlib.Core.Bool.{Bool, true, false, not, _&&_, _||_}
+use mathlib.Core.Bool.{Bool, true, false, _||_}
 use mathlib.Core.List.{List, [], _∷_}
-use Prim.Native.Nat.{ℕ, suc, _+_, _<_}
+use Prim.Native.Nat.{ℕ, suc, _+_, _≤_, _<_}
 use native.Mathlib.Omega.{arith}
 use lib.Dec.{eqb}
-use lib.ListN.{length, getD}
+use lib.ListN.{length}
 use lib.Seq.{take-length}
-use borrow.Author.Tests.{eqb-true, eqb-false, eq-eqb, not-false}
+use borrow.Author.Tests.{eqb-true, eq-eqb, not-false}
 use Rattle.lists.specs.Lists.{bit, pick, sum, sum₂, count, All, upTo}
 use Rattle.lists.specs.Laws.Tests.{by-test, both, or-right, eqb-sym}
 use Rattle.lists.specs.Laws.All.{all-map, all₂-map}
-use Rattle.lists.specs.Laws.Sums.{sum-same, sum₂-same, sum-pick, sum-map, sum-swap}
-use Rattle.lists.specs.Laws.UpTo.{sum-below, sum-part, sum-places}
-use Rattle.model.specs.Model.{Model, Answer, report, Object, Region, noObject, object, marks, live, livesIn, homeIn, parentIn, into, freeInto, inFrames, fromObject, inWords, words, outside}
+use Rattle.lists.specs.Laws.Sums.{sum-same, sum₂-same, sum-swap}
+use Rattle.lists.specs.Laws.UpTo.{sum-below, sum-part}
+use Rattle.model.specs.Model.{Model, Answer, report, Object, Region, noObject, object, live, livesIn, homeIn, parentIn, freeInto, outside}
 use Rattle.model.specs.Calls.{checks, refusal, reply, accepted}
 use Rattle.model.specs.Valid.{Valid, Distinct, fine}
 use Rattle.model.specs.Laws.Passed.{passed}
 use Rattle.model.specs.Laws.Slots.{object-valid}
-use Rattle.frames.specs.Frames.{widthAt, slotAt}
+use Rattle.model.specs.Laws.Counts.{outside-stored}
 use Rattle.regions.specs.declared.Regions.{Regions}
-use Rattle.regions.specs.Regions.{tagOf}
+use Rattle.regions.specs.Regions.{entryOf, tagOf}
 use Rattle.pages.specs.declared.Pages.{Pages}
-use Rattle.pages.specs.Pages.{pageCount, ownerAt, ownerOf}
+use Rattle.pages.specs.Pages.{ownerAt, ownerOf}
 use Rattle.objects.specs.Objects.{freeWordsOn}
-use Rattle.outcomes.specs.Store.{Store, frames, kinds, regions, pages, slotTargets, slotsInto, wordsInto, outsideOf}
+use Rattle.outcomes.specs.Store.{Store, kinds, regions, pages, outsideOf}
 use Rattle.outcomes.specs.Outcome.{Accepted}
-use Rattle.refinement.specs.Represents.{spot, Alive, wordsIn, idsIn, tagFor, FramesAgree, KindsAgree, RegionsAgree, PagesAgree, ObjectsAgree, Represents, Owned}
-use Rattle.refinement.specs.Laws.Tags.{Named, zero-dead, live-for, tag-for, for-same, tag-same, subregions-are}
-use Rattle.refinement.specs.Laws.Reads.{frame-count, page-count}
-use Rattle.refinement.specs.Laws.Counts.{leads-into, slots-into}
+use Rattle.refinement.specs.Represents.{spot, Alive, wordsIn, idsIn, tagFor, KindsAgree, RegionsAgree, PagesAgree, ObjectsAgree, Represents, Owned}
+use Rattle.refinement.specs.Laws.Tags.{Named, zero-dead, live-for, tag-for, for-same, subregions-are}
+use Rattle.refinement.specs.Laws.Counts.{leads-into, slots-beyond}
 use Rattle.refinement.specs.Laws.Walks.{marksIn, free-words-on, homes-on}
 
 -- one region of the list has the name r, if it lives
@@ -102,60 +101,15 @@ module _ (L : Model) (sp : List ℕ) (ids : ℕ → List ℕ) (S : Store) (v : V
           → sum₂ (λ m x. pick (eqb m 1) (bit (eqb (ownerOf (pages S) (spot sp x)) (tagOf (regions S) r))) 0) (marksIn L q) (wordsIn L q) ≡ weight L r q
       each q h = sum₂-same _ _ (marksIn L q) (wordsIn L q) (all₂-map (word (homeIn L q)) (marksIn L q) (wordsIn L q) (object-valid L v q (h .0) .marked (h .0)))
 
-  -- the words marked 1 of all pages that lead into r
-  words-are : sum (wordsInto S (tagOf (regions S) r)) (upTo (pageCount (pages S))) ≡ words L r
-  unfolding wordsInto inWords fromObject
-  words-are =
-      let other : ℕ → ℕ = λ q. pick (not (eqb (homeIn L q) r)) (weight L r q) 0 in
-      let lives : Object → ℕ = λ o. pick (livesIn L (o .home) && not (eqb (o .home) r)) (sum₂ (freeInto (homeIn L) r) (marks (L .kinds) (o .kind)) (o .words)) 0 in
-      rw (page-count onPages)
-      (sum-below _ (λ j. pick (eqb (ownerAt (pages S) j) 0) 0 (sum other (ids j))) ((pages S) .made) page
-      ∙ held-objects L sp ids (regions S) (pages S) (S .heap) v onRegions onPages onObjects other
-      ∙ ap (λ f. sum f (idsIn L)) (fun-ext (λ q. alive (livesIn L (homeIn L q)) (not (eqb (homeIn L q) r)) (weight L r q)))
-      ∙ ids-objects L lives)
-    where
-      alive : (a b : Bool) (n : ℕ) → pick a (pick b n 0) 0 ≡ pick (a && b) n 0
-      alive true b n = refl
-      alive false b n = refl
+-- the stored count, and the slots of the uncounted frames: all outside pointers, which 32 bits hold
+pub outside-is : {L : Model} {sp : List ℕ} {ids : ℕ → List ℕ} (S : Store) → Valid L → Represents L sp ids S → (r : ℕ) → livesIn L r ≡ true → outside L r ≤ 16640
+    → outsideOf S (entryOf (regions S) r) ≡ outside L r
+unfolding outsideOf tagOf
+outside-is {L} S v h r l small = omega (arith, h .counts r l, slots-beyond S v (h .onFrames) (h .onRegions) (h .onObjects) r l, outside-stored L r)
 
-      page : (j : ℕ) → j < (pages S) .made
-          → pick (eqb (ownerAt (pages S) j) 0 || eqb (ownerAt (pages S) j) (tagOf (regions S) r)) 0 (count (λ x. eqb (ownerOf (pages S) x) (tagOf (regions S) r)) (freeWordsOn (kinds S) (S .heap) (pages S) j))
-          ≡ pick (eqb (ownerAt (pages S) j) 0) 0 (sum (λ q. pick (not (eqb (homeIn L q) r)) (weight L r q) 0) (ids j))
-      page j made = by-test (eqb (ownerAt (pages S) j) 0) (λ e. rw e) (λ e.
-          let held = eqb-false (ownerAt (pages S) j) 0 e in
-          rw (e, page-words j made held) (own (eqb (ownerAt (pages S) j) (tagOf (regions S) r))
-          ∙ sym (sum-pick (not (eqb (ownerAt (pages S) j) (tagOf (regions S) r))) (weight L r) (ids j))
-          ∙ sum-same _ _ (ids j) (all-map each (ids j) (homes-on v onObjects j made held))))
-        where
-          own : (b : Bool) → pick b 0 (sum (weight L r) (ids j)) ≡ pick (not b) (sum (weight L r) (ids j)) 0
-          own true = refl
-          own false = refl
-
-          each : (q : ℕ) → Alive L q × (ownerAt (pages S) j ≡ tagOf (regions S) (homeIn L q))
-              → pick (not (eqb (ownerAt (pages S) j) (tagOf (regions S) r))) (weight L r q) 0 ≡ pick (not (eqb (homeIn L q) r)) (weight L r q) 0
-          each q h = rw (h .1, tag-same onRegions (homeIn L q) r (h .0) l)
-
-  module _ (onFrames : FramesAgree sp (L .frames) (L .counted) (frames S)) where
-    -- the slots of a frame that lead into r
-    frame-slots : (i : ℕ) → i < length (L .frames) → slotsInto S (tagOf (regions S) r) i ≡ sum (into (homeIn L) r) (getD (L .frames) i [])
-    unfolding slotsInto slotTargets
-    frame-slots i h = sym (sum-map (λ t. bit (eqb t (tagOf (regions S) r))) (λ s. ownerOf (pages S) (slotAt (frames S) i s)) (upTo (widthAt (frames S) i))) ∙ slots-into S v onFrames onRegions onObjects r l i h
-
-    pub outside-is : outsideOf S (tagOf (regions S) r) ≡ outside L r
-    unfolding outsideOf outside inFrames
-    outside-is =
-        let n = length (L .frames) in
-        rw (
-          frame-count onFrames (v .frames .many),
-          words-are,
-          sum-below (slotsInto S (tagOf (regions S) r)) (λ i. sum (into (homeIn L) r) (getD (L .frames) i [])) n frame-slots,
-          sum-places (sum (into (homeIn L) r)) (L .frames) [],
-        ) (omega arith)
-
-pub report-step : (L : Model) (sp : List ℕ) (ids : ℕ → List ℕ) (S : Store) → Valid L → Represents L sp ids S → (a : Answer) (T : Store) (r : ℕ) → refusal L (report r) ≡ 0 → Accepted (report r) S a T
-    → (a ≡ reply L (report r)) × Represents (accepted L (report r)) sp ids T
+pub report-step : (L : Model) (sp : List ℕ) (ids : ℕ → List ℕ) (S : Store) → Valid L → Represents L sp ids S → (a : Answer) (T : Store) (r : ℕ) → ((q : ℕ) → outside L q ≤ 16640)
+    → refusal L (report r) ≡ 0 → Accepted (report r) S a T → (a ≡ reply L (report r)) × Represents (accepted L (report r)) sp ids T
 unfolding checks Accepted reply accepted
-report-step L sp ids S v h a T r e (x, y) =
+report-step L sp ids S v h a T r small e (x, y) =
     let l = not-false (livesIn L r) (passed L (report r) e .0) in
-    let o = outside-is L sp ids S v (h .onKinds) (h .onRegions) (h .onPages) (h .onObjects) r l (h .onFrames) in
-    (x ∙ rw (h .counts r l, o, h .onPages .held r l, subregions-are (h .onRegions) v r l), rw y h)
+    (x ∙ rw (h .counts r l, outside-is S v h r l (small r), h .onPages .held r l, subregions-are (h .onRegions) v r l), rw y h)

@@ -23,7 +23,7 @@ use Rattle.model.specs.Laws.Slots.{held-lives}
 use Rattle.model.specs.Laws.Counts.{fill-stored}
 use Rattle.frames.specs.declared.Frames.{Frames}
 use Rattle.frames.specs.Frames.{topFrame, widthAt, slotAt, putSlot}
-use Rattle.regions.specs.Regions.{countAt, withCounts}
+use Rattle.regions.specs.Laws.Recount.{beside-same}
 use Rattle.objects.specs.Objects.{wordAt, wordCount}
 use Rattle.outcomes.specs.Store.{Store, frames, kinds, regions, slot as storeSlot}
 use Rattle.outcomes.specs.Shape.{Shaped}
@@ -83,8 +83,8 @@ fill-frames sp fs m f s p room few sized k h = record {
 
 module _ (L : Model) (sp : List ℕ) (ids : ℕ → List ℕ) (S : Store) (v : Valid L) (h : Represents L sp ids S) where
   pub fill-represents : length ((frames S) .slots) ≡ 256 → (s p : ℕ) → s < length (top L) → Represents (fillSlot L s p) sp ids (storeFill S s (spot sp p))
-  unfolding fillSlot storeFill withCounts countAt
-  fill-represents room s p k = framed ((regions S) .counts)
+  unfolding fillSlot storeFill
+  fill-represents room s p k = framed (beside-same (regions S))
       (fill-frames sp (L .frames) (L .counted) (frames S) s p room (v .frames .many) (v .frames .sized) k (h .onFrames)) (λ r l. h .counts r l ∙ sym (fill-stored L r v s p)) h
 
   -- what word w of the object in slot s holds, as its mark says

@@ -22,7 +22,8 @@ use Rattle.model.specs.Moves.{uncounted}
 use Rattle.model.specs.Laws.Counts.{push-stored, pop-stored, zero-uncounted, none-uncounted, top-uncounted}
 use Rattle.frames.specs.declared.Frames.{Frames}
 use Rattle.frames.specs.Frames.{topFrame, widthAt, slotAt, pushed, uncounts, popped, uncountsIn}
-use Rattle.regions.specs.Regions.{tagOf, countAt, moved, withCounts}
+use Rattle.regions.specs.Regions.{tagOf}
+use Rattle.regions.specs.Laws.Recount.{beside-same, recount-beside}
 use Rattle.outcomes.specs.Store.{Store, frames, regions, slotTargets}
 use Rattle.outcomes.specs.Shape.{Shaped, FramesShaped}
 use Rattle.outcomes.specs.Outcome.{Accepted, recounted, popFrame as storePop}
@@ -30,7 +31,7 @@ use Rattle.refinement.specs.Represents.{spot, FramesAgree, Represents}
 use Rattle.refinement.specs.Laws.Reads.{frame-small, top-frame, beneath-frame, slot-is}
 use Rattle.refinement.specs.Laws.Kept.{framed}
 use Rattle.refinement.specs.Laws.Slots.{fill-represents}
-use Rattle.refinement.specs.Laws.Counts.{count-moved, slots-into}
+use Rattle.refinement.specs.Laws.Counts.{count-is, slots-into}
 
 -- ---- push
 
@@ -78,12 +79,12 @@ pub mark-falls : (n m : ℕ) → m ≤ n → pick (ltb 0 n && leb n m) (m - 1) m
 mark-falls n m low = by-test (ltb 0 n) (λ e. rw e) (λ e. let z = ltb-false 0 n e in rw (e, le-leb n m (omega arith)) (omega arith))
 
 uncounts-is : {sp : List ℕ} {fs : List (List ℕ)} {m : ℕ} {f : Frames} → FramesAgree sp fs m f → uncounts f ≡ (ltb 0 (last fs) && leb (last fs) m)
-unfolding uncounts uncountsIn
+unfolding uncounts uncountsIn topFrame
 uncounts-is h = rw (top-frame h, h .counted)
 
 pop-frames : (sp : List ℕ) (fs : List (List ℕ)) (m : ℕ) (f : Frames) → m ≤ last fs → FramesAgree sp fs m f
     → FramesAgree sp (take (last fs) fs) (pick (leb (last fs) m) (m - 1) m) (popped f)
-unfolding popped widthAt slotAt
+unfolding popped uncounts widthAt slotAt
 pop-frames sp fs m f low h = record {
   standing = simp length-take (omega (arith, top-frame h));
   counted = rw (uncounts-is h, h .counted) (mark-falls (last fs) m low);
@@ -113,10 +114,10 @@ module _ (L : Model) (sp : List ℕ) (ids : ℕ → List ℕ) (S : Store) (v : V
       go false e b d = rw (zero-uncounted L (omega (arith, v .frames .mark, ltb-false 0 (last (L .frames)) e)))
 
   pub popped-represents : ((r : ℕ) → stored L r ≤ 16640) → Represents (popFrame L) sp ids (storePop S)
-  unfolding popFrame storePop recounted countAt
-  popped-represents small = framed (moved ((regions S) .counts) [] gone)
+  unfolding popFrame storePop recounted
+  popped-represents small = framed (recount-beside (regions S) [] gone)
       (pop-frames sp (L .frames) (L .counted) (frames S) (v .frames .mark) (h .onFrames))
-      (λ r l. count-moved (h .onRegions) r l ((regions S) .counts) [] gone (stored (popFrame L) r) (omega (arith, slots-out r l, pop-stored L r v, h .counts r l)) (omega (arith, small r, pop-stored L r v)))
+      (λ r l. count-is (h .onRegions) r l [] gone (stored (popFrame L) r) (omega (arith, slots-out r l, pop-stored L r v, h .counts r l)) (omega (arith, small r, pop-stored L r v)))
       h
     where
       gone : List ℕ
@@ -126,13 +127,13 @@ module _ (L : Model) (sp : List ℕ) (ids : ℕ → List ℕ) (S : Store) (v : V
 
 module _ (L : Model) (sp : List ℕ) (ids : ℕ → List ℕ) (S : Store) (v : Valid L) (h : Represents L sp ids S) (a : Answer) (T : Store) where
   pub push-step : Shaped S → (n : ℕ) → refusal L (push n) ≡ 0 → Accepted (push n) S a T → (a ≡ reply L (push n)) × Represents (accepted L (push n)) sp ids T
-  unfolding checks Accepted reply accepted withCounts countAt
+  unfolding checks Accepted reply accepted
   push-step z n e x =
       let t = passed L (push n) e in
       let small = ltb-false 8 n (neither (eqb n 0) (ltb 8 n) (t .0) .1) in
       let few = leb-false 32 (length (L .frames)) (t .1 .0) in (
         x .0 ∙ ap (λ k. gives ((k + 1) ∷ [])) (h .onFrames .standing),
-        rw (x .1) (framed ((regions S) .counts)
+        rw (x .1) (framed (beside-same (regions S))
             (push-frames sp (L .frames) (L .counted) (frames S) n (z .inFrames) few small (v .frames .sized) (h .onFrames)) (λ r l. h .counts r l ∙ sym (push-stored L r v (replicate n 0))) h),
       )
 

@@ -20,15 +20,17 @@ use Rattle.model.specs.Laws.Slots.{Known, held-lives, in-list}
 use Rattle.model.specs.Moves.{weighs, moves}
 use Rattle.model.specs.Laws.Passed.{passed}
 use Rattle.model.specs.Laws.Moves.{accepted-stored}
-use Rattle.regions.specs.Regions.{nameAt, entryOf, tagOf, countAt, moved, withCounts, entryIn}
+use Rattle.regions.specs.declared.Regions.{Regions}
+use Rattle.regions.specs.Regions.{entryOf, tagOf, countAt}
+use Rattle.regions.specs.Laws.Recount.{Beside, beside-same, recount-beside}
 use Rattle.pages.specs.Pages.{ownerOf}
 use Rattle.objects.specs.Objects.{wordAt}
 use Rattle.outcomes.specs.Store.{Store, regions, pages}
 use Rattle.outcomes.specs.Outcome.{Accepted, withRegions, recounted, countedIn, pointed, writeWord as storeWrite}
 use Rattle.refinement.specs.Represents.{spot, image, Alive, wordsIn, Laid, Represents}
 use Rattle.refinement.specs.Laws.Reads.{top-known, slot-is, word-is, mark-is}
-use Rattle.refinement.specs.Laws.Counts.{count-moved, word-known, leads-into}
-use Rattle.refinement.specs.Laws.Kept.{regions-kept, pages-kept, tiles-kept}
+use Rattle.refinement.specs.Laws.Counts.{count-is, word-known, leads-into}
+use Rattle.refinement.specs.Laws.Kept.{same-entry, same-tag, regions-kept, pages-kept, tiles-kept}
 
 -- ---- one object replaced
 
@@ -105,16 +107,16 @@ module _ (L : Model) (sp : List ℕ) (ids : ℕ → List ℕ) (S : Store) (v : V
   away q (inl a) = ((λ e. omega arith), (λ j b e. omega arith))
   away q (inr a) = ((λ e. omega arith), (λ j b e. omega arith))
 
-  written : (cs : List ℕ) → ((r : ℕ) → livesIn L r ≡ true → getD cs (entryOf (regions S) r) 0 ≡ stored (writeWord L s w x) r)
-      → Represents (writeWord L s w x) sp ids (storeWrite (withRegions S (withCounts (regions S) cs)) (spot sp (slot L s)) w (image sp (markAt L s w) x))
-  unfolding writeWord storeWrite os₂ withCounts entryOf tagOf nameAt countAt entryIn
-  written cs counts =
+  written : (g : Regions) → Beside (regions S) g → ((r : ℕ) → livesIn L r ≡ true → countAt g (entryOf (regions S) r) ≡ stored (writeWord L s w x) r)
+      → Represents (writeWord L s w x) sp ids (storeWrite (withRegions S g) (spot sp (slot L s)) w (image sp (markAt L s w) x))
+  unfolding writeWord storeWrite os₂
+  written g b counts =
       let o = h .onObjects in
       record {
         onFrames = h .onFrames;
         onKinds = h .onKinds;
-        onRegions = regions-kept L (L .kinds) (L .frames) (L .counted) os₂ (regions S) cs sp (h .onRegions);
-        onPages = rw length-set (pages-kept L (L .kinds) (L .frames) (L .counted) os₂ (regions S) cs (pages S) (length (S .heap)) (h .onPages));
+        onRegions = regions-kept L (L .kinds) (L .frames) (L .counted) os₂ b sp (h .onRegions);
+        onPages = rw length-set (pages-kept L (L .kinds) (L .frames) (L .counted) os₂ b (pages S) (length (S .heap)) (h .onPages));
         onObjects = record {
           known = o .known ∙ sym (length-replaced (L .objects) (slot L s) (withWord (held L s) w x));
           laid = λ q l. object-either (λ q p. Alive L q → Laid (set (S .heap) (spot sp (slot L s) + w) (image sp (markAt L s w) x)) sp (marks (L .kinds) (p .kind)) q p)
@@ -122,13 +124,13 @@ module _ (L : Model) (sp : List ℕ) (ids : ℕ → List ℕ) (S : Store) (v : V
               (λ q e a. laid-kept (S .heap) sp (marks (L .kinds) ((object (L .objects) q) .kind)) q (object (L .objects) q) (spot sp (slot L s) + w) (image sp (markAt L s w) x)
               (away q (o .apart (slot L s) q here a (λ d. e (sym d)))) (o .laid q a)) q (alive-was q l);
           apart = λ p q a b e. rw (size-kept p, size-kept q) (o .apart p q (alive-was p a) (alive-was q b) e);
-          owned = λ q l. o .owned q (alive-was q l) ∙ sym (ap (λ f. tagOf (regions S) (f q)) (homes-kept (L .objects) (slot L s) w x));
+          owned = λ q l. o .owned q (alive-was q l) ∙ sym (same-tag b (homeIn L q)) ∙ sym (ap (λ f. tagOf g (f q)) (homes-kept (L .objects) (slot L s) w x));
           within = λ q l. rw (size-kept q) (o .within q (alive-was q l));
           full = o .full;
           tiled = λ j a b. tiles-kept L (writeWord L s w x) sp sp (λ q l. (alive-is q l, refl, size-kept q)) (64 * j) (64 * j + getD ((pages S) .taken) j 0) (ids j) (o .tiled j a b);
-          once = λ r l f. rw (homes-kept (L .objects) (slot L s) w x, length-replaced (L .objects) (slot L s) (withWord (held L s) w x)) (o .once r l f);
+          once = λ r l f. rw (same-tag b r, homes-kept (L .objects) (slot L s) w x, length-replaced (L .objects) (slot L s) (withWord (held L s) w x)) (o .once r l f);
         };
-        counts = counts;
+        counts = λ r l. rw (same-entry b r) (counts r l);
       }
 
 -- ---- counts
@@ -173,7 +175,7 @@ module _ (L : Model) (sp : List ℕ) (ids : ℕ → List ℕ) (S : Store) (v : V
 module _ (L : Model) (sp : List ℕ) (ids : ℕ → List ℕ) (S : Store) (v : Valid L) (h : Represents L sp ids S) (a : Answer) (T : Store) where
   pub pointer-step : ((r : ℕ) → stored L r ≤ 16640) → (s w t : ℕ) → refusal L (setPointer s w t) ≡ 0 → Accepted (setPointer s w t) S a T
       → (a ≡ reply L (setPointer s w t)) × Represents (accepted L (setPointer s w t)) sp ids T
-  unfolding checks Accepted reply accepted writeWord pointed recounted countAt moves
+  unfolding checks Accepted reply accepted writeWord pointed recounted moves
   pointer-step small s w t e y =
       let c = passed L (setPointer s w t) e in
       let b = neither (lacks (top L) s) (lacks (top L) t) (c .1 .0) in
@@ -186,20 +188,20 @@ module _ (L : Model) (sp : List ℕ) (ids : ℕ → List ℕ) (S : Store) (v : V
       let sort = mark-is (h .onObjects) (h .onKinds) v (slot L s) w (top-known v s) k in
       let counted = countedIn S (markAt L s w) (ownerOf (pages S) (spot sp (slot L s))) in (
         y .0,
-        rw (y .1, slot-is h s (b .0), slot-is h t (b .1), was, sort) (rw m at (written L sp ids S v h s w (slot L t) n k (moved ((regions S) .counts) (counted (spot sp (slot L t))) (counted (spot sp old))) (λ r l.
+        rw (y .1, slot-is h s (b .0), slot-is h t (b .1), was, sort) (rw m at (written L sp ids S v h s w (slot L t) n k _ (recount-beside (regions S) (counted (spot sp (slot L t))) (counted (spot sp old))) (λ r l.
             let i = counted-weighs L sp ids S v h s w n r l (slot L t) (top-known v t) in
             let j = counted-weighs L sp ids S v h s w n r l old (word-known L v (slot L s) w o k m) in
             let d = accepted-stored L r v (setPointer s w t) e l in
-            count-moved (h .onRegions) r l ((regions S) .counts) (counted (spot sp (slot L t))) (counted (spot sp old)) (stored (accepted L (setPointer s w t)) r)
+            count-is (h .onRegions) r l (counted (spot sp (slot L t))) (counted (spot sp old)) (stored (accepted L (setPointer s w t)) r)
             (omega (arith, h .counts r l)) (omega (arith, small r, weighs-most L s w r (slot L t)))))),
       )
 
   pub put-step : (s w x : ℕ) → refusal L (put s w x) ≡ 0 → Accepted (put s w x) S a T → (a ≡ reply L (put s w x)) × Represents (accepted L (put s w x)) sp ids T
-  unfolding checks Accepted reply accepted writeWord withCounts countAt moves
+  unfolding checks Accepted reply accepted writeWord moves
   put-step s w x e y =
       let t = passed L (put s w x) e in
       let m = not-false (eqb (markAt L s w) 0) (t .1 .1 .1 .1 .0) in
       let k = leb-false (length ((held L s) .words)) w (t .1 .1 .1 .0) in (
         y .0,
-        rw (y .1, slot-is h s (t .1 .0)) (rw m at (written L sp ids S v h s w x (t .1 .1 .0) k ((regions S) .counts) (λ r l. omega (arith, h .counts r l, accepted-stored L r v (put s w x) e l)))),
+        rw (y .1, slot-is h s (t .1 .0)) (rw m at (written L sp ids S v h s w x (t .1 .1 .0) k (regions S) (beside-same (regions S)) (λ r l. omega (arith, h .counts r l, accepted-stored L r v (put s w x) e l)))),
       )

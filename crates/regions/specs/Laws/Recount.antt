@@ -9,16 +9,20 @@ use Rattle.regions.specs.Regions.{countAt, withCounts, rolled, recount}
 use Rattle.regions.specs.Laws.Counts.{moved-at}
 
 -- h is g but for the stored counts
-abbrev pub Beside : Regions → Regions → Type 0
-Beside g h = h ≡ withCounts g (h .counts)
+pub record Beside (g h : Regions) : Type 0 where
+  pub given : h .given ≡ g .given
+  pub names : h .names ≡ g .names
+  pub parents : h .parents ≡ g .parents
+  pub levels : h .levels ≡ g .levels
+  pub newest : h .newest ≡ g .newest
+  pub oldest : h .oldest ≡ g .oldest
 
 pub beside-same : (g : Regions) → Beside g g
-unfolding withCounts
-beside-same g = refl
+beside-same g = record { given = refl; names = refl; parents = refl; levels = refl; newest = refl; oldest = refl }
 
 pub recount-beside : (g : Regions) (come gone : List ℕ) → Beside g (recount g come gone)
 unfolding recount withCounts
-recount-beside g come gone = refl
+recount-beside g come gone = record { given = refl; names = refl; parents = refl; levels = refl; newest = refl; oldest = refl }
 
 pub recount-at : (g : Regions) (come gone : List ℕ) (i : ℕ) → i < 64 → countAt (recount g come gone) i ≡ rolled (countAt g i) (times (suc i) come) (times (suc i) gone)
 unfolding recount withCounts countAt
