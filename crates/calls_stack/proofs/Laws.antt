@@ -1,50 +1,51 @@
--- The tests of each call, and that the effects are those of the outcomes.
+-- The tests of each call, and the effect of a drop.
 -- Assumes nothing.
 use mathlib.Core.Path.{_≡_, refl, _∙_}
 use mathlib.Core.List.{List, []}
-use Prim.Native.Nat.{ℕ, _%_, _<_}
+use Prim.Native.Nat.{ℕ, _-_, _%_, _<_}
 use native.Mathlib.Omega.{arith}
 use lib.Dec.{eqb, ltb}
 use lib.ListN.{length}
 use borrow.Author.Tests.{ltb-false, leb-false}
+use Rattle.lists.specs.Lists.{pick}
 use Rattle.lists.specs.Laws.Tests.{neither}
 use Rattle.model.specs.Model.{push, dropFrame, handBack}
 use Rattle.model.specs.Calls.{reason}
 use Rattle.model.specs.Laws.Passed.{all-passed}
-use Rattle.frames.specs.declared.Frames.{Frames}
-use Rattle.pages.specs.declared.Pages.{Pages}
-use Rattle.pages.specs.Pages.{ownerOf}
-use Rattle.state.specs.declared.State.{State}
-use Rattle.outcomes.specs.Store.{Store, frames, pages, slotTargets}
-use Rattle.outcomes.specs.Outcome.{store, refusal, checks, badLength, noFrame, popFrame, recounted, fillSlot}
-use Rattle.checks.specs.Checks.{beneathTests, withSlot, slotTags}
-use Rattle.checks.specs.Laws.Tests.{slot-beneath, or-zero}
-use Rattle.calls_stack.specs.Stack.{pushTests, dropTests, uncountedTop, poppedState}
+use Rattle.frames.specs.Frames.{topIn, uncountsIn, topFrame, uncounts, popped}
+use Rattle.regions.specs.Regions.{withCounts}
+use Rattle.regions.specs.Laws.Counts.{Counts}
+use Rattle.regions.specs.Laws.Steps.{leavings}
+use Rattle.regions.specs.Laws.Recount.{leave-recount}
+use Rattle.pages.specs.Pages.{wrongLength}
+use Rattle.outcomes.specs.Store.{Store, frames, regions, pages, targetsIn, slotTargets}
+use Rattle.outcomes.specs.Outcome.{refusal, checks, badLength, noFrame, withFrames, withRegions, popFrame, recounted}
+use Rattle.checks.specs.Laws.Tests.{beneath, slot-beneath, or-zero}
+use Rattle.calls_stack.specs.Stack.{pushTests, dropTests}
 
 module _ (S : Store) where
-  pub push-tests : (w : ℕ) → refusal S (push w) ≡ reason (pushTests (pages S) (length (S .heap)) (frames S) w)
-  unfolding refusal checks badLength pushTests
+  pub push-tests : (w : ℕ) → refusal S (push w) ≡ reason (pushTests ((pages S) .made) (length (S .heap)) ((frames S) .standing) w)
+  unfolding refusal checks badLength wrongLength pushTests
   push-tests w = refl
 
-  pub drop-tests : refusal S dropFrame ≡ reason (dropTests (pages S) (length (S .heap)) (frames S))
-  unfolding refusal checks badLength noFrame dropTests
+  pub drop-tests : refusal S dropFrame ≡ reason (dropTests ((pages S) .made) (length (S .heap)) ((frames S) .standing))
+  unfolding refusal checks badLength wrongLength noFrame dropTests
   drop-tests = refl
 
-  pub hand-tests : (s b : ℕ) → refusal S (handBack s b) ≡ reason (beneathTests (pages S) (length (S .heap)) (frames S) s b)
+  pub hand-tests : (s b : ℕ) → refusal S (handBack s b) ≡ reason (beneath S s b)
   unfolding refusal checks
-  hand-tests s b = slot-beneath S [] s b ∙ or-zero (reason (beneathTests (pages S) (length (S .heap)) (frames S) s b))
+  hand-tests s b = slot-beneath S [] s b ∙ or-zero (reason (beneath S s b))
+
+  -- the frame gone and the counts put back, which the pointers of the new top have left where it was counted
+  pub pop-is : (cs : List ℕ) → Counts ((regions S) .counts)
+      → let f = frames S in cs ≡ leavings ((regions S) .counts) (pick (uncountsIn (f .standing) (f .counted)) (targetsIn (f .widths) (f .slots) ((pages S) .owners) (topIn (f .standing) - 1)) [])
+      → withFrames (withRegions S (withCounts (regions S) cs)) (popped (frames S)) ≡ popFrame S
+  unfolding popFrame recounted uncounts topFrame slotTargets
+  pop-is cs fits e = rw (e, leave-recount (regions S) fits)
 
 -- a push that is accepted: at most 8 slots, and room for a frame
-pub push-small : (p : Pages) (n : ℕ) (f : Frames) (w : ℕ) → reason (pushTests p n f w) ≡ 0 → (w % 256 ≡ w) × (f .standing < 32)
+pub push-small : (made n standing w : ℕ) → reason (pushTests made n standing w) ≡ 0 → (w % 256 ≡ w) × (standing < 32)
 unfolding pushTests
-push-small p n f w e =
-    let t = all-passed (pushTests p n f w) refl e in
-    (omega (arith, ltb-false 8 w (neither (eqb w 0) (ltb 8 w) (t .1 .0) .1)), leb-false 32 (f .standing) (t .1 .1 .0))
-
-pub pop-is : (s : State) (heap : List ℕ) → store (poppedState s) heap ≡ popFrame (store s heap)
-unfolding poppedState uncountedTop slotTags popFrame recounted slotTargets ownerOf
-pop-is s heap = refl
-
-pub back-is : (s : State) (heap : List ℕ) (i v : ℕ) → store (withSlot (poppedState s) i v) heap ≡ fillSlot (popFrame (store s heap)) i v
-unfolding withSlot fillSlot poppedState uncountedTop slotTags popFrame recounted slotTargets ownerOf
-back-is s heap i v = refl
+push-small made n standing w e =
+    let t = all-passed (pushTests made n standing w) refl e in
+    (omega (arith, ltb-false 8 w (neither (eqb w 0) (ltb 8 w) (t .1 .0) .1)), leb-false 32 standing (t .1 .1 .0))

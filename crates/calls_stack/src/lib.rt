@@ -1,20 +1,22 @@
 // The calls on the stack of frames: push, drop, hand_back.
-use frames::Frames;
-use pages::Pages;
-use regions::Regions;
 use state::Done;
 use state::State;
 ghost use mathlib.Core.Path.{_≡_};
 ghost use mathlib.Core.List.{[]};
+ghost use Prim.Native.Nat.{_-_};
+ghost use Rattle.lists.specs.Lists.{pick};
 ghost use Rattle.model.specs.Model.{push, dropFrame, handBack};
 ghost use Rattle.model.specs.Calls.{reason};
+ghost use Rattle.frames.specs.Frames.{topIn, uncountsIn};
+ghost use Rattle.regions.specs.Laws.Steps.{leavings};
+ghost use Rattle.outcomes.specs.Store.{targetsIn};
 ghost use Rattle.outcomes.specs.Outcome.{Outcome, answerOf, store};
-ghost use Rattle.calls_stack.specs.Stack.{pushTests, dropTests, uncountedTop, poppedState};
+ghost use Rattle.calls_stack.specs.Stack.{pushTests, dropTests};
 
-fn push_refusal(p: Pages, n: usize, f: Frames, slots: u32) -> u32
-    ensures { λ r. ⌜ r ≡ reason (pushTests p n f slots) ⌝ }
+fn push_refusal(made: u32, n: usize, standing: u32, slots: u32) -> u32
+    ensures { λ r. ⌜ r ≡ reason (pushTests made n standing slots) ⌝ }
 {
-    if pages::wrong_length(p, n) {
+    if pages::wrong_length(made, n) {
         return 21;
     }
     if slots == 0 {
@@ -23,7 +25,7 @@ fn push_refusal(p: Pages, n: usize, f: Frames, slots: u32) -> u32
     if 8 < slots {
         return 8;
     }
-    if 32 <= f.standing {
+    if 32 <= standing {
         return 7;
     }
     0
@@ -33,53 +35,54 @@ fn push_refusal(p: Pages, n: usize, f: Frames, slots: u32) -> u32
 pub fn push(s: State, heap: &[u32], slots: u32) -> Done
     ensures { λ r. ⌜ Outcome (push slots) (store s (now (heap .entry))) (answerOf (r .reply) []) (store (r .state) (now (heap .entry))) ⌝ }
 {
-    let p = s.pages;
-    let f = s.frames;
-    let g = push_refusal(p, heap.len(), f, slots);
-    if g != 0 {
-        return checks::refusing(s, g);
-    }
-    let h = frames::push(f, (slots % 256) as u8);
     let mut t = s;
-    t.frames = h;
+    let n = t.frames.standing;
+    let g = push_refusal(t.pages.made, heap.len(), n, slots);
+    if g != 0 {
+        return Done {
+            state: t,
+            reply: checks::refused(g),
+        };
+    }
+    frames::put_width(&mut t.frames.widths, n, (slots % 256) as u8);
+    frames::null_frame(&mut t.frames.slots, n);
+    let more = n + 1;
+    t.frames.standing = more;
     Done {
         state: t,
-        reply: checks::gives(h.standing, 0, 0, 0),
+        reply: checks::gives(more, 0, 0, 0),
     }
 }
 
-fn uncounted_top(g: Regions, p: Pages, f: Frames) -> Regions
-    ensures { λ r. ⌜ r ≡ uncountedTop g p f ⌝ }
+// The counts once the top frame goes: if the frame then on top was counted, its pointers leave them.
+fn uncount_top<'a>(
+    standing: u32,
+    counted: u32,
+    widths: &'a [u8],
+    slots: &'a [u32],
+    owners: &'a [u8],
+    counts: &mut [u32],
+)
+    ensures { λ _. ⌜ now (counts .exit) ≡ leavings (now (counts .entry)) (pick (uncountsIn standing counted) (targetsIn (now (widths .entry)) (now (slots .entry)) (now (owners .entry)) (topIn standing - 1)) []) ⌝ }
 {
-    if frames::uncounts(f) {
-        let c = g.counts;
-        let d = checks::leave_frame(f, &p.owners, c, cells::less(frames::top(f)));
-        return regions::with_counts(g, d);
+    if frames::uncounts(standing, counted) {
+        checks::leave_frame(
+            widths,
+            slots,
+            owners,
+            counts,
+            cells::less(frames::top(standing)),
+        );
     }
-    g
 }
 
-fn pop(s: State) -> State
-    ensures { λ r. ⌜ r ≡ poppedState s ⌝ }
+fn drop_refusal(made: u32, n: usize, standing: u32) -> u32
+    ensures { λ r. ⌜ r ≡ reason (dropTests made n standing) ⌝ }
 {
-    let f = s.frames;
-    let p = s.pages;
-    let g = s.regions;
-    let h = uncounted_top(g, p, f);
-    let e = frames::pop(f);
-    let mut t = s;
-    t.frames = e;
-    t.regions = h;
-    t
-}
-
-fn drop_refusal(p: Pages, n: usize, f: Frames) -> u32
-    ensures { λ r. ⌜ r ≡ reason (dropTests p n f) ⌝ }
-{
-    if pages::wrong_length(p, n) {
+    if pages::wrong_length(made, n) {
         return 21;
     }
-    if f.standing == 0 {
+    if standing == 0 {
         return 6;
     }
     0
@@ -89,16 +92,35 @@ fn drop_refusal(p: Pages, n: usize, f: Frames) -> u32
 pub fn drop(s: State, heap: &[u32]) -> Done
     ensures { λ r. ⌜ Outcome dropFrame (store s (now (heap .entry))) (answerOf (r .reply) []) (store (r .state) (now (heap .entry))) ⌝ }
 {
-    let p = s.pages;
-    let f = s.frames;
-    let g = drop_refusal(p, heap.len(), f);
+    let mut t = s;
+    let n = t.frames.standing;
+    let g = drop_refusal(t.pages.made, heap.len(), n);
     if g != 0 {
-        return checks::refusing(s, g);
+        return Done {
+            state: t,
+            reply: checks::refused(g),
+        };
     }
-    let t = pop(s);
+    let m = t.frames.counted;
+    let mut r = t.regions;
+    regions::counts_shaped(r);
+    let mut c = r.counts;
+    uncount_top(
+        n,
+        m,
+        &t.frames.widths,
+        &t.frames.slots,
+        &t.pages.owners,
+        &mut c,
+    );
+    r.counts = c;
+    t.regions = r;
+    t.frames.counted = frames::counted_after(n, m);
+    let below = frames::top(n);
+    t.frames.standing = below;
     Done {
         state: t,
-        reply: checks::gives(frames::top(f), 0, 0, 0),
+        reply: checks::gives(below, 0, 0, 0),
     }
 }
 
@@ -106,17 +128,36 @@ pub fn drop(s: State, heap: &[u32]) -> Done
 pub fn hand_back(s: State, heap: &[u32], slot: u32, beneath: u32) -> Done
     ensures { λ r. ⌜ Outcome (handBack slot beneath) (store s (now (heap .entry))) (answerOf (r .reply) []) (store (r .state) (now (heap .entry))) ⌝ }
 {
-    let p = s.pages;
-    let f = s.frames;
-    let g = checks::beneath_refusal(p, heap.len(), f, slot, beneath);
+    let mut t = s;
+    let n = t.frames.standing;
+    let g = checks::beneath_refusal(t.pages.made, heap.len(), n, &t.frames.widths, slot, beneath);
     if g != 0 {
-        return checks::refusing(s, g);
+        return Done {
+            state: t,
+            reply: checks::refused(g),
+        };
     }
-    let v = checks::top_slot(f, slot);
-    let t = pop(s);
-    let u = checks::with_slot(t, beneath, v);
+    let v = checks::top_slot(n, &t.frames.slots, slot);
+    let m = t.frames.counted;
+    let mut r = t.regions;
+    regions::counts_shaped(r);
+    let mut c = r.counts;
+    uncount_top(
+        n,
+        m,
+        &t.frames.widths,
+        &t.frames.slots,
+        &t.pages.owners,
+        &mut c,
+    );
+    r.counts = c;
+    t.regions = r;
+    t.frames.counted = frames::counted_after(n, m);
+    let below = frames::top(n);
+    t.frames.standing = below;
+    frames::put_slot(&mut t.frames.slots, frames::top(below), beneath, v);
     Done {
-        state: u,
-        reply: checks::gives(frames::top(f), 0, 0, 0),
+        state: t,
+        reply: checks::gives(below, 0, 0, 0),
     }
 }

@@ -10,11 +10,11 @@ returns c = rw (← c .before .wrong-length .ensures) (simp (c .if1 .taken))
 
 returns-2 : tie.Need-returns-2
 unfolding dropTests
-returns-2 c = rw (← c .before .before .before .wrong-length .ensures) (simp (c .before .before .if1 .left, eq-eqb _ _ (c .if2 .taken)))
+returns-2 c = rw (← c .before .before .wrong-length .ensures) (simp (c .before .if1 .left, eq-eqb _ _ (c .if2 .taken)))
 
 returns-3 : tie.Need-returns-3
 unfolding dropTests
-returns-3 c = rw (← c .before .before .before .wrong-length .ensures) (simp (c .before .before .if1 .left, ne-eqb _ _ (c .if2 .left)))
+returns-3 c = rw (← c .before .before .wrong-length .ensures) (simp (c .before .if1 .left, ne-eqb _ _ (c .if2 .left)))
 
 pub drop-refusal-spec : {M : Type 1} → statement M
 drop-refusal-spec = tie.close (tie.spec (λ c κs. search needs) returns returns-2 returns-3)

@@ -1,22 +1,33 @@
-use mathlib.Core.Path.{sym, _∙_}
+use mathlib.Core.Path.{refl, sym, ap, _∙_}
 use borrow.Author.Needs.{needs}
+use Rattle.frames.specs.Frames.{topFrame, slotAt, putSlot, popped}
+use Rattle.regions.specs.Regions.{withCounts}
 use Rattle.outcomes.specs.Store.{slot}
-use Rattle.outcomes.specs.Outcome.{Accepted}
-use Rattle.outcomes.specs.Laws.Steps.{by-effect}
-use Rattle.checks.specs.Laws.Tests.{by-refusing}
-use Rattle.calls_stack.proofs.Laws.{hand-tests, back-is}
+use Rattle.outcomes.specs.Outcome.{Accepted, fillSlot}
+use Rattle.outcomes.specs.Laws.Steps.{by-refusal, by-effect}
+use Rattle.calls_stack.proofs.Laws.{hand-tests, pop-is}
 use Rattle.calls_stack.proofs.hand_back.Statement.{statement}
 use Rattle.calls_stack.proofs.hand_back.Tie as tie
 
 returns : tie.Need-returns
-returns c = by-refusing _ _ _ _ _ _ (hand-tests _ _ _ ∙ sym (c .before .before .beneath-refusal .ensures)) (c .before .if1 .taken) (c .refusing .ensures)
+returns c = by-refusal _ _ _ _ _ (hand-tests _ _ _ ∙ sym (c .before .before .beneath-refusal .ensures)) (c .before .if1 .taken) (c .refused .ensures) refl
 
 returns-2 : tie.Need-returns-2
-unfolding Accepted slot
+unfolding Accepted topFrame popped withCounts slot slotAt fillSlot putSlot
 returns-2 c =
-    let t = c .before .before .before .before in
-    by-effect _ _ _ _ (hand-tests _ _ _ ∙ sym (t .before .before .beneath-refusal .ensures) ∙ t .before .if1 .left)
-    (c .gives .ensures ∙ rw (c .before .top .ensures), rw (c .before .before .with-slot .ensures, c .before .before .before .pop .ensures, t .top-slot .ensures) (back-is _ _ _ _))
+    let w = c .before in
+    let t = w .before .before .before .before in
+    let k = t .before .before in
+    let u = k .before .before in
+    let z = u .before .before .before .before .before .before .before .before .before .before in
+    let v = z .before .before in
+    let i = v .before .before .before .before in
+    let a = i .before .before .before .before .before .before .args in
+    by-effect _ _ _ _ (hand-tests _ _ _ ∙ sym (i .before .beneath-refusal .ensures) ∙ i .if1 .left) (
+      c .gives .ensures ∙ rw (t .top .ensures),
+      rw (w .put-slot .ensures, w .before .top2 .ensures, t .top .ensures, k .counted-after .ensures, v .top-slot .ensures)
+          (ap (λ T. fillSlot T (a .beneath) (slotAt (a .s .frames) (topFrame (a .s .frames)) (a .slot))) (pop-is _ _ (z .counts-shaped .ensures) (u .uncount-top .ensures))),
+    )
 
 pub hand-back-spec : {M : Type 1} → statement M
-hand-back-spec = tie.close (tie.spec (λ c κs. search needs) (λ c κs. search needs) returns (λ c κs. search needs) (λ c κs. search needs) (λ c κs. search needs) (λ c κs. search needs) (λ c κs. search needs) returns-2)
+hand-back-spec = tie.close (tie.spec (λ c κs. search needs) (λ c κs. search needs) returns (λ c κs. search needs) (λ c κs. search needs) (λ c. search needs) (λ c κs. search needs) (λ c κs. search needs) (λ c κs. search needs) (λ c κs. search needs) (λ c κs. search needs) (λ c κs. search needs) returns-2)

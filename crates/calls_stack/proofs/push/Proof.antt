@@ -1,24 +1,29 @@
-use mathlib.Core.Path.{sym, _∙_}
+use mathlib.Core.Path.{refl, sym, _∙_}
+use native.Mathlib.Omega.{arith}
 use borrow.Author.Needs.{needs}
-use borrow.Author.Tests.{lt-leb}
 use Rattle.frames.specs.Frames.{pushed}
 use Rattle.outcomes.specs.Outcome.{Accepted}
-use Rattle.outcomes.specs.Laws.Steps.{by-effect}
-use Rattle.checks.specs.Laws.Tests.{by-refusing}
+use Rattle.outcomes.specs.Laws.Steps.{by-refusal, by-effect}
 use Rattle.calls_stack.proofs.Laws.{push-tests, push-small}
 use Rattle.calls_stack.proofs.push.Statement.{statement}
 use Rattle.calls_stack.proofs.push.Tie as tie
 
 returns : tie.Need-returns
-returns c = by-refusing _ _ _ _ _ _ (push-tests _ _ ∙ sym (c .before .before .push-refusal .ensures)) (c .before .if1 .taken) (c .refusing .ensures)
+returns c = by-refusal _ _ _ _ _ (push-tests _ _ ∙ sym (c .before .before .push-refusal .ensures)) (c .before .if1 .taken) (c .refused .ensures) refl
+
+add-more : tie.Need-add-more
+add-more c =
+    let i = c .before .before .before .before in
+    omega (arith, push-small _ _ _ _ (sym (i .before .push-refusal .ensures) ∙ i .if1 .left) .1)
 
 returns-2 : tie.Need-returns-2
 unfolding Accepted pushed
 returns-2 c =
-    let e = sym (c .before .before .before .push-refusal .ensures) ∙ c .before .before .if1 .left in
-    let k = push-small _ _ _ _ e in
-    let h = rw (k .0, lt-leb _ _ (k .1)) at (c .before .push .ensures) in
-    by-effect _ _ _ _ (push-tests _ _ ∙ e) (c .gives .ensures ∙ rw h, rw h)
+    let n = c .before .before in
+    let w = n .before .before in
+    let i = w .before .before in
+    let e = sym (i .before .push-refusal .ensures) ∙ i .if1 .left in
+    by-effect _ _ _ _ (push-tests _ _ ∙ e) (c .gives .ensures, rw (n .null-frame .ensures, w .put-width .ensures, push-small _ _ _ _ e .0))
 
 pub push-spec : {M : Type 1} → statement M
-push-spec = tie.close (tie.spec (λ c κs. search needs) (λ c κs. search needs) returns (λ c. search needs) (λ c κs. search needs) (λ c κs. search needs) returns-2)
+push-spec = tie.close (tie.spec (λ c κs. search needs) (λ c κs. search needs) returns (λ c. search needs) (λ c κs. search needs) (λ c κs. search needs) add-more (λ c κs. search needs) returns-2)

@@ -18,11 +18,11 @@ returns-3 c = rw (← c .before .before .before .wrong-length .ensures) (simp (c
 
 returns-4 : tie.Need-returns-4
 unfolding pushTests
-returns-4 c = rw (← c .before .before .before .before .before .wrong-length .ensures) (simp (c .before .before .before .before .if1 .left, ne-eqb _ _ (c .before .before .before .if2 .left), le-ltb _ _ (c .before .before .if3 .left), le-leb _ _ (c .if4 .taken)))
+returns-4 c = rw (← c .before .before .before .before .wrong-length .ensures) (simp (c .before .before .before .if1 .left, ne-eqb _ _ (c .before .before .if2 .left), le-ltb _ _ (c .before .if3 .left), le-leb _ _ (c .if4 .taken)))
 
 returns-5 : tie.Need-returns-5
 unfolding pushTests
-returns-5 c = rw (← c .before .before .before .before .before .wrong-length .ensures) (simp (c .before .before .before .before .if1 .left, ne-eqb _ _ (c .before .before .before .if2 .left), le-ltb _ _ (c .before .before .if3 .left), lt-leb _ _ (c .if4 .left)))
+returns-5 c = rw (← c .before .before .before .before .wrong-length .ensures) (simp (c .before .before .before .if1 .left, ne-eqb _ _ (c .before .before .if2 .left), le-ltb _ _ (c .before .if3 .left), lt-leb _ _ (c .if4 .left)))
 
 pub push-refusal-spec : {M : Type 1} → statement M
 push-refusal-spec = tie.close (tie.spec (λ c κs. search needs) returns returns-2 returns-3 returns-4 returns-5)
