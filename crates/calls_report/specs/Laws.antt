@@ -1,3 +1,2 @@
--- Laws of the pointers counted, proved.
-pub mod Into
+-- Report computed.
 pub mod Cases

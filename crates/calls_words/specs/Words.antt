@@ -1,19 +1,48 @@
--- What the calls on an object's words share.
+-- The tests that calls on words run after those of their slots, in document 01's order, and the counts that a set pointer changes, over the numbers and lists that
+-- they read. An object is given as the part of the heap that begins at its header.
 -- Assumes nothing.
 use mathlib.Core.Bool.{Bool, not, _&&_, _||_}
 use mathlib.Core.List.{List, [], _∷_}
-use Prim.Native.Nat.{ℕ}
-use lib.Dec.{eqb}
+use Prim.Native.Nat.{ℕ, _-_}
+use lib.Dec.{eqb, leb}
+use lib.ListN.{getD}
 use Rattle.lists.specs.Lists.{pick}
-use Rattle.model.specs.Calls.{_yields_}
-use Rattle.outcomes.specs.Store.{Store, slot}
-use Rattle.outcomes.specs.Outcome.{badLength, noFrame, lacks, noWord}
+use Rattle.model.specs.Model.{rule}
+use Rattle.model.specs.Calls.{reason, _yields_}
+use Rattle.kinds.specs.Kinds.{sizeIn, markIn}
+use Rattle.regions.specs.Regions.{nameIn}
+use Rattle.pages.specs.Pages.{ownerIn}
+use Rattle.objects.specs.Parts.{headerIn, wordIn}
+use Rattle.checks.specs.Checks.{orElse}
 
--- the tests that load, set pointer, put and get begin with, in document 01's order: slots s and t of the top frame, word w of the object in slot s
-unfoldable pub wordTests : Store → ℕ → ℕ → ℕ → List (Bool × ℕ)
-wordTests S s w t = badLength S yields 21 ∷ noFrame S yields 6 ∷ (lacks S s || lacks S t) yields 9 ∷ eqb (slot S s) 0 yields 14 ∷ noWord S s w yields 15 ∷ []
+-- word w of the object that v leads to
+unfoldable pub wordTests : ℕ → List ℕ → List ℕ → ℕ → ℕ → List (Bool × ℕ)
+wordTests declared sizes object v w = eqb v 0 yields 14 ∷ leb (sizeIn declared sizes (headerIn object)) w yields 15 ∷ []
+
+-- why it is no pointer word, and no data word; 0 where it is
+abbrev pub pointerRefusal : ℕ → List ℕ → List ℕ → List ℕ → ℕ → ℕ → ℕ
+pointerRefusal declared sizes marks object v w = orElse (reason (wordTests declared sizes object v w)) (reason (eqb (markIn marks (headerIn object) w) 0 yields 16 ∷ []))
+
+abbrev pub dataRefusal : ℕ → List ℕ → List ℕ → List ℕ → ℕ → ℕ → ℕ
+dataRefusal declared sizes marks object v w = orElse (reason (wordTests declared sizes object v w)) (reason (not (eqb (markIn marks (headerIn object) w) 0) yields 16 ∷ []))
+
+-- x, which leads into the region with tag t, breaks the mark m of a word of the region with tag h, by the names and the regions above
+unfoldable pub breaksIn : List ℕ → List ℕ → ℕ → ℕ → ℕ → ℕ → Bool
+breaksIn names parents m h x t = not (eqb x 0 || rule m (nameIn names t) (nameIn names h) (nameIn names (getD parents (h - 1) 0)))
+
+-- why word w of the object that v leads to cannot get x; 0 where it can
+abbrev pub setRefusal : ℕ → List ℕ → List ℕ → List ℕ → List ℕ → List ℕ → List ℕ → ℕ → ℕ → ℕ → ℕ
+setRefusal declared sizes marks names parents owners object v w x =
+    orElse (pointerRefusal declared sizes marks object v w) (reason (breaksIn names parents (markIn marks (headerIn object) w) (ownerIn owners v) x (ownerIn owners x) yields 17 ∷ []))
 
 -- the tag of the region whose count has a pointer into the region with tag t, held by a word marked k of an object of the region with tag h: 0 for none
 -- (document 01, The store, on outside pointers)
 unfoldable pub countedTag : ℕ → ℕ → ℕ → ℕ
 countedTag k h t = pick (eqb k 1 && not (eqb t h)) t 0
+
+-- for word w of the object that v leads to: the one that what it holds is counted in, and the one that x will be
+abbrev pub tagLeft : List ℕ → List ℕ → List ℕ → ℕ → ℕ → ℕ
+tagLeft marks owners object v w = countedTag (markIn marks (headerIn object) w) (ownerIn owners v) (ownerIn owners (wordIn object w))
+
+abbrev pub tagEntered : List ℕ → List ℕ → List ℕ → ℕ → ℕ → ℕ → ℕ
+tagEntered marks owners object v w x = countedTag (markIn marks (headerIn object) w) (ownerIn owners v) (ownerIn owners x)

@@ -4,67 +4,64 @@ use state::Reply;
 use state::State;
 ghost use mathlib.Core.Path.{_≡_};
 ghost use mathlib.Core.List.{[]};
+ghost use Prim.Native.Nat.{_+_};
+ghost use lib.ListN.{set};
 ghost use Rattle.model.specs.Model.{load, setPointer, put, get, view};
 ghost use Rattle.model.specs.Calls.{reason};
-ghost use Rattle.frames.specs.Frames.{topFrame, slotAt};
-ghost use Rattle.objects.specs.Objects.{markOf};
-ghost use Rattle.outcomes.specs.Store.{breaks};
-ghost use Rattle.outcomes.specs.Outcome.{Outcome, answerOf, viewAnswer, store, refusal, pointed};
-ghost use Rattle.calls_words.specs.Words.{wordTests, countedTag};
+ghost use Rattle.regions.specs.Laws.Steps.{entering, leaving};
+ghost use Rattle.outcomes.specs.Outcome.{Outcome, answerOf, viewAnswer, store, refusal};
+ghost use Rattle.calls_words.specs.Words.{wordTests, pointerRefusal, dataRefusal, setRefusal, breaksIn, countedTag, tagLeft, tagEntered};
 
-// 21, 6, 9, 14 and 15 for word w of the object in a slot; `other` is the second slot that the call names, or the same one.
-fn word_refusal(s: State, heap: &[u32], slot: u32, w: u32, other: u32) -> u32
-    ensures { λ r. ⌜ r ≡ reason (wordTests (store s (now (heap .entry))) slot w other) ⌝ }
+// 14 and 15 for word w of the object that v leads to.
+fn word_refusal(declared: u32, sizes: &[u8], object: &[u32], v: u32, w: u32) -> u32
+    ensures { λ r. ⌜ r ≡ reason (wordTests declared (now (sizes .entry)) (now (object .entry)) v w) ⌝ }
 {
-    let p = s.pages;
-    let f = s.frames;
-    let g = checks::top_refusal(p, heap.len(), f, slot, other);
-    if g != 0 {
-        return g;
-    }
-    let v = checks::top_slot(f, slot);
     if v == 0 {
         return 14;
     }
-    let k = s.kinds;
-    if objects::word_count(k, heap, v) <= w {
+    if objects::word_count(declared, sizes, object) <= w {
         return 15;
     }
     0
 }
 
-// The mark of word w of the object in a slot.
-fn mark_in(s: State, heap: &[u32], slot: u32, w: u32) -> u32
-    ensures { λ r. ⌜ r ≡ markOf (s .kinds) (now (heap .entry)) (slotAt (s .frames) (topFrame (s .frames)) slot) w ⌝ }
+// The same, and 16 unless the word is a pointer.
+fn pointer_refusal<'a>(
+    declared: u32,
+    sizes: &'a [u8],
+    marks: &'a [u8],
+    object: &[u32],
+    v: u32,
+    w: u32,
+) -> u32
+    ensures { λ r. ⌜ r ≡ pointerRefusal declared (now (sizes .entry)) (now (marks .entry)) (now (object .entry)) v w ⌝ }
 {
-    let f = s.frames;
-    let k = s.kinds;
-    objects::mark_of(k, heap, checks::top_slot(f, slot), w)
-}
-
-// Load's refusal: the word has to be a pointer.
-fn pointer_refusal(s: State, heap: &[u32], slot: u32, w: u32, other: u32) -> u32
-    ensures { λ r. ⌜ r ≡ refusal (store s (now (heap .entry))) (load slot w other) ⌝ }
-{
-    let g = word_refusal(s, heap, slot, w, other);
+    let g = word_refusal(declared, sizes, object, v, w);
     if g != 0 {
         return g;
     }
-    if mark_in(s, heap, slot, w) == 0 {
+    if objects::mark_of(marks, object, w) == 0 {
         return 16;
     }
     0
 }
 
-// Get's refusal, which is put's too: the word has to be data.
-fn data_refusal(s: State, heap: &[u32], slot: u32, w: u32) -> u32
-    ensures { λ r. ⌜ r ≡ refusal (store s (now (heap .entry))) (get slot w) ⌝ }
+// The same, and 16 unless the word is data.
+fn data_refusal<'a>(
+    declared: u32,
+    sizes: &'a [u8],
+    marks: &'a [u8],
+    object: &[u32],
+    v: u32,
+    w: u32,
+) -> u32
+    ensures { λ r. ⌜ r ≡ dataRefusal declared (now (sizes .entry)) (now (marks .entry)) (now (object .entry)) v w ⌝ }
 {
-    let g = word_refusal(s, heap, slot, w, slot);
+    let g = word_refusal(declared, sizes, object, v, w);
     if g != 0 {
         return g;
     }
-    if mark_in(s, heap, slot, w) != 0 {
+    if objects::mark_of(marks, object, w) != 0 {
         return 16;
     }
     0
@@ -74,25 +71,59 @@ fn data_refusal(s: State, heap: &[u32], slot: u32, w: u32) -> u32
 pub fn load(s: State, heap: &[u32], slot: u32, w: u32, to: u32) -> Done
     ensures { λ r. ⌜ Outcome (load slot w to) (store s (now (heap .entry))) (answerOf (r .reply) []) (store (r .state) (now (heap .entry))) ⌝ }
 {
-    let g = pointer_refusal(s, heap, slot, w, to);
+    let mut t = s;
+    let n = t.frames.standing;
+    let g = checks::top_refusal(t.pages.made, heap.len(), n, &t.frames.widths, slot, to);
     if g != 0 {
-        return checks::refusing(s, g);
+        return Done {
+            state: t,
+            reply: checks::refused(g),
+        };
     }
-    let f = s.frames;
-    let v = checks::top_slot(f, slot);
-    checks::filled(s, to, objects::word_at(heap, v, w))
+    let v = checks::top_slot(n, &t.frames.slots, slot);
+    let object = objects::object_of(heap, v);
+    let h = pointer_refusal(
+        t.kinds.declared,
+        &t.kinds.sizes,
+        &t.kinds.marks,
+        object,
+        v,
+        w,
+    );
+    if h != 0 {
+        return Done {
+            state: t,
+            reply: checks::refused(h),
+        };
+    }
+    frames::put_slot(
+        &mut t.frames.slots,
+        frames::top(n),
+        to,
+        objects::word_at(object, w),
+    );
+    Done {
+        state: t,
+        reply: checks::gives(0, 0, 0, 0),
+    }
 }
 
 // Document 01's call 15: a data word gets the value. The state stays as it is.
 pub fn put(s: State, heap: &mut [u32], slot: u32, w: u32, value: u32) -> Reply
     ensures { λ r. ⌜ Outcome (put slot w value) (store s (now (heap .entry))) (answerOf r []) (store s (now (heap .exit))) ⌝ }
 {
-    let g = data_refusal(s, heap, slot, w);
+    let f = s.frames;
+    let g = checks::top_refusal(s.pages.made, heap.len(), f.standing, &f.widths, slot, slot);
     if g != 0 {
         return checks::refused(g);
     }
-    let f = s.frames;
-    let v = checks::top_slot(f, slot);
+    let v = checks::top_slot(f.standing, &f.slots, slot);
+    let k = s.kinds;
+    let object = objects::object_of(heap, v);
+    let h = data_refusal(k.declared, &k.sizes, &k.marks, object, v, w);
+    if h != 0 {
+        return checks::refused(h);
+    }
     cells::store(heap, (v as usize) + (w as usize), value);
     checks::gives(0, 0, 0, 0)
 }
@@ -101,31 +132,37 @@ pub fn put(s: State, heap: &mut [u32], slot: u32, w: u32, value: u32) -> Reply
 pub fn get(s: State, heap: &[u32], slot: u32, w: u32) -> Reply
     ensures { λ r. ⌜ Outcome (get slot w) (store s (now (heap .entry))) (answerOf r []) (store s (now (heap .entry))) ⌝ }
 {
-    let g = data_refusal(s, heap, slot, w);
+    let f = s.frames;
+    let g = checks::top_refusal(s.pages.made, heap.len(), f.standing, &f.widths, slot, slot);
     if g != 0 {
         return checks::refused(g);
     }
-    let f = s.frames;
-    let v = checks::top_slot(f, slot);
-    checks::gives(objects::word_at(heap, v, w), 0, 0, 0)
+    let v = checks::top_slot(f.standing, &f.slots, slot);
+    let k = s.kinds;
+    let object = objects::object_of(heap, v);
+    let h = data_refusal(k.declared, &k.sizes, &k.marks, object, v, w);
+    if h != 0 {
+        return checks::refused(h);
+    }
+    checks::gives(objects::word_at(object, w), 0, 0, 0)
 }
 
 // View's check, beside view itself.
 pub fn view_refusal(s: State, heap: &[u32], slot: u32) -> u32
     ensures { λ r. ⌜ r ≡ refusal (store s (now (heap .entry))) (view slot) ⌝ }
 {
-    let p = s.pages;
     let f = s.frames;
-    let g = checks::top_refusal(p, heap.len(), f, slot, slot);
+    let g = checks::top_refusal(s.pages.made, heap.len(), f.standing, &f.widths, slot, slot);
     if g != 0 {
         return g;
     }
-    let v = checks::top_slot(f, slot);
+    let v = checks::top_slot(f.standing, &f.slots, slot);
     if v == 0 {
         return 14;
     }
     let k = s.kinds;
-    if kinds::all_data(k, objects::kind_of(heap, v)) {
+    let kind = objects::kind_of(objects::object_of(heap, v));
+    if kinds::all_data(k.declared, &k.sizes, &k.marks, kind) {
         return 0;
     }
     16
@@ -140,47 +177,58 @@ pub fn view<'a>(s: State, heap: &'a [u32], slot: u32) -> &'a [u32]
     }
     let f = s.frames;
     let k = s.kinds;
-    let v = checks::top_slot(f, slot);
-    objects::words(heap, v as usize, objects::word_count(k, heap, v) as usize)
+    let v = checks::top_slot(f.standing, &f.slots, slot);
+    let n = objects::word_count(k.declared, &k.sizes, objects::object_of(heap, v));
+    cells::part(heap, v as usize, n as usize)
 }
 
-// Whether x breaks the mark of word w of the object that v leads to.
-fn breaks(s: State, heap: &[u32], v: u32, w: u32, x: u32) -> bool
-    ensures { λ r. ⌜ r ≡ breaks (store s (now (heap .entry))) v w x ⌝ }
+// Whether a word marked m of an object of the region with tag h may not get x, which leads into the region with tag `to`.
+fn breaks<'a>(names: &'a [u32], parents: &'a [u8], m: u32, h: u32, x: u32, to: u32) -> bool
+    ensures { λ r. ⌜ r ≡ breaksIn (now (names .entry)) (now (parents .entry)) m h x to ⌝ }
 {
     if x == 0 {
         return false;
     }
-    let k = s.kinds;
-    let r = s.regions;
-    let p = s.pages;
-    let m = objects::mark_of(k, heap, v, w);
-    let h = checks::tag_of(p, v);
-    let up = regions::parent_at(r, cells::less(h));
-    let to = checks::tag_of(p, x);
+    let up = regions::parent_at(parents, cells::less(h));
     if kinds::allows(
         m,
-        regions::name_of(r, to),
-        regions::name_of(r, h),
-        regions::name_of(r, up),
+        regions::name_of(names, to),
+        regions::name_of(names, h),
+        regions::name_of(names, up),
     ) {
         return false;
     }
     true
 }
 
-// Set pointer's refusal: load's, then 17.
-fn set_refusal(s: State, heap: &[u32], slot: u32, w: u32, value: u32) -> u32
-    ensures { λ r. ⌜ r ≡ refusal (store s (now (heap .entry))) (setPointer slot w value) ⌝ }
+// 14, 15, 16 and 17 for the pointer x in word w of the object that v leads to.
+fn set_refusal<'a>(
+    declared: u32,
+    sizes: &'a [u8],
+    marks: &'a [u8],
+    names: &'a [u32],
+    parents: &'a [u8],
+    owners: &'a [u8],
+    object: &[u32],
+    v: u32,
+    w: u32,
+    x: u32,
+) -> u32
+    ensures { λ r. ⌜ r ≡ setRefusal declared (now (sizes .entry)) (now (marks .entry)) (now (names .entry)) (now (parents .entry)) (now (owners .entry)) (now (object .entry)) v w x ⌝ }
 {
-    let g = pointer_refusal(s, heap, slot, w, value);
+    let g = pointer_refusal(declared, sizes, marks, object, v, w);
     if g != 0 {
         return g;
     }
-    let f = s.frames;
-    let v = checks::top_slot(f, slot);
-    let x = checks::top_slot(f, value);
-    if breaks(s, heap, v, w, x) {
+    let m = objects::mark_of(marks, object, w);
+    if breaks(
+        names,
+        parents,
+        m,
+        pages::owner_of(owners, v),
+        x,
+        pages::owner_of(owners, x),
+    ) {
         return 17;
     }
     0
@@ -199,39 +247,79 @@ fn counted_tag(k: u32, h: u32, t: u32) -> u32
     t
 }
 
-// The state after word w of the object that v leads to is set to x: the old pointer leaves the counts, the new one enters them.
-fn recount(s: State, heap: &[u32], v: u32, w: u32, x: u32) -> State
-    ensures { λ r. ⌜ r ≡ pointed (store s (now (heap .entry))) v w x .state ⌝ }
+// The tags of the regions whose counts a pointer leaves and enters, 0 for none.
+struct Tags {
+    leave: u32,
+    enter: u32,
+}
+
+// Those of word w of the object that v leads to, when it gets x.
+fn tags_of<'a>(marks: &'a [u8], owners: &'a [u8], object: &[u32], v: u32, w: u32, x: u32) -> Tags
+    ensures { λ r. ⌜ (r .leave ≡ tagLeft (now (marks .entry)) (now (owners .entry)) (now (object .entry)) v w) × (r .enter ≡ tagEntered (now (marks .entry)) (now (owners .entry)) (now (object .entry)) v w x) ⌝ }
 {
-    let k = s.kinds;
-    let p = s.pages;
-    let m = objects::mark_of(k, heap, v, w);
-    let h = checks::tag_of(p, v);
-    let old = checks::tag_of(p, objects::word_at(heap, v, w));
-    let new = checks::tag_of(p, x);
-    let r = s.regions;
-    let a = r.counts;
-    let b = regions::leave(a, counted_tag(m, h, old));
-    let c = regions::enter(b, counted_tag(m, h, new));
-    let q = regions::with_counts(r, c);
-    let mut t = s;
-    t.regions = q;
-    t
+    let m = objects::mark_of(marks, object, w);
+    let own = pages::owner_of(owners, v);
+    let old = pages::owner_of(owners, objects::word_at(object, w));
+    let new = pages::owner_of(owners, x);
+    Tags {
+        leave: counted_tag(m, own, old),
+        enter: counted_tag(m, own, new),
+    }
+}
+
+// The counts of a set pointer.
+fn recount(counts: &mut [u32; 64], leave: u32, enter: u32)
+    ensures { λ _. ⌜ now (counts .exit) ≡ entering (leaving (now (counts .entry)) leave) enter ⌝ }
+{
+    regions::leave(counts, leave);
+    regions::enter(counts, enter);
+}
+
+// Word w of the object that v leads to gets x.
+fn write(heap: &mut [u32], v: u32, w: u32, x: u32)
+    ensures { λ _. ⌜ now (heap .exit) ≡ set (now (heap .entry)) (v + w) x ⌝ }
+{
+    cells::store(heap, (v as usize) + (w as usize), x);
 }
 
 // Document 01's call 14: a pointer word gets what slot `value` holds, and the counts follow.
 pub fn set_pointer(s: State, heap: &mut [u32], slot: u32, w: u32, value: u32) -> Done
     ensures { λ r. ⌜ Outcome (setPointer slot w value) (store s (now (heap .entry))) (answerOf (r .reply) []) (store (r .state) (now (heap .exit))) ⌝ }
 {
-    let g = set_refusal(s, heap, slot, w, value);
+    let mut t = s;
+    let n = t.frames.standing;
+    let g = checks::top_refusal(t.pages.made, heap.len(), n, &t.frames.widths, slot, value);
     if g != 0 {
-        return checks::refusing(s, g);
+        return Done {
+            state: t,
+            reply: checks::refused(g),
+        };
     }
-    let f = s.frames;
-    let v = checks::top_slot(f, slot);
-    let x = checks::top_slot(f, value);
-    let t = recount(s, heap, v, w, x);
-    cells::store(heap, (v as usize) + (w as usize), x);
+    let v = checks::top_slot(n, &t.frames.slots, slot);
+    let x = checks::top_slot(n, &t.frames.slots, value);
+    let object = objects::object_of(heap, v);
+    let h = set_refusal(
+        t.kinds.declared,
+        &t.kinds.sizes,
+        &t.kinds.marks,
+        &t.regions.names,
+        &t.regions.parents,
+        &t.pages.owners,
+        object,
+        v,
+        w,
+        x,
+    );
+    if h != 0 {
+        return Done {
+            state: t,
+            reply: checks::refused(h),
+        };
+    }
+    let m = tags_of(&t.kinds.marks, &t.pages.owners, object, v, w, x);
+    regions::counts_shaped(t.regions);
+    recount(&mut t.regions.counts, m.leave, m.enter);
+    write(heap, v, w, x);
     Done {
         state: t,
         reply: checks::gives(0, 0, 0, 0),

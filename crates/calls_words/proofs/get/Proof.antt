@@ -1,19 +1,35 @@
 use mathlib.Core.Path.{refl, sym, _∙_}
 use borrow.Author.Needs.{needs}
-use Rattle.outcomes.specs.Store.{slot}
+use Rattle.frames.specs.Frames.{slotAt, topFrame}
 use Rattle.outcomes.specs.Outcome.{Accepted}
+use Rattle.outcomes.specs.Store.{slot}
 use Rattle.outcomes.specs.Laws.Steps.{by-refusal, by-effect}
+use Rattle.checks.specs.Laws.Tests.{else-first, else-next}
+use Rattle.calls_words.proofs.Laws.{get-tests, word-read}
 use Rattle.calls_words.proofs.get.Statement.{statement}
 use Rattle.calls_words.proofs.get.Tie as tie
 
 returns : tie.Need-returns
-returns c = by-refusal _ _ _ _ _ (sym (c .before .before .data-refusal .ensures)) (c .before .if1 .taken) (c .refused .ensures) refl
+returns c = by-refusal _ _ _ _ _ (get-tests _ _ _ ∙ else-first _ _ _ (c .before .before .top-refusal .ensures) (c .before .if1 .taken)) (c .before .if1 .taken) (c .refused .ensures) refl
 
 returns-2 : tie.Need-returns-2
-unfolding Accepted slot
 returns-2 c =
-    by-effect _ _ _ _ (sym (c .before .before .before .before .before .data-refusal .ensures) ∙ c .before .before .before .before .if1 .left)
-    (c .gives .ensures ∙ rw (c .before .word-at .ensures, c .before .before .top-slot .ensures), refl)
+    let d = c .before .before in
+    let o = d .before .before .before .before .before .before in
+    let t = o .before .before .before .before .before .before in
+    by-refusal _ _ _ _ _ (get-tests _ _ _ ∙ else-next _ _ _ (t .before .top-refusal .ensures) (t .if1 .left) ∙ sym (d .data-refusal .ensures ∙ rw (o .object-of .ensures, o .before .before .top-slot .ensures))) (c .before .if2 .taken) (c .refused2 .ensures) refl
+
+returns-3 : tie.Need-returns-3
+unfolding Accepted slot slotAt topFrame
+returns-3 c =
+    let d = c .before .before .before in
+    let o = d .before .before .before .before .before .before in
+    let v = o .before .before in
+    let t = o .before .before .before .before .before .before in
+    let h = rw (o .object-of .ensures, v .top-slot .ensures) at (d .data-refusal .ensures) in
+    let z = c .before .before .if2 .left in
+    by-effect _ _ _ _ (get-tests _ _ _ ∙ else-next _ _ _ (t .before .top-refusal .ensures) (t .if1 .left) ∙ sym h ∙ z)
+    (c .gives .ensures ∙ rw (c .before .word-at .ensures, o .object-of .ensures, v .top-slot .ensures, word-read _ _ _ _ _ _ (sym h ∙ z)), refl)
 
 pub get-spec : {M : Type 1} → statement M
-get-spec = tie.close (tie.spec (λ c κs. search needs) (λ c κs. search needs) returns (λ c κs. search needs) (λ c κs. search needs) (λ c κs. search needs) returns-2)
+get-spec = tie.close (tie.spec (λ c κs. search needs) (λ c κs. search needs) returns (λ c κs. search needs) (λ c κs. search needs) (λ c κs. search needs) (λ c κs. search needs) returns-2 (λ c κs. search needs) (λ c κs. search needs) returns-3)

@@ -1,20 +1,35 @@
 use mathlib.Core.Path.{refl, sym, _∙_}
 use borrow.Author.Needs.{needs}
+use Rattle.frames.specs.Frames.{slotAt, topFrame}
+use Rattle.outcomes.specs.Outcome.{Accepted, writeWord}
 use Rattle.outcomes.specs.Store.{slot}
-use Rattle.outcomes.specs.Outcome.{writeWord, Accepted}
 use Rattle.outcomes.specs.Laws.Steps.{by-refusal, by-effect}
-use Rattle.calls_words.proofs.Laws.{put-tests}
+use Rattle.checks.specs.Laws.Tests.{else-first, else-next}
+use Rattle.calls_words.proofs.Laws.{get-tests, put-tests}
 use Rattle.calls_words.proofs.put.Statement.{statement}
 use Rattle.calls_words.proofs.put.Tie as tie
 
 returns : tie.Need-returns
-returns c = by-refusal _ _ _ _ _ (put-tests _ _ _ _ ∙ sym (c .before .before .data-refusal .ensures)) (c .before .if1 .taken) (c .refused .ensures) refl
+returns c = by-refusal _ _ _ _ _ (put-tests _ _ _ _ ∙ get-tests _ _ _ ∙ else-first _ _ _ (c .before .before .top-refusal .ensures) (c .before .if1 .taken)) (c .before .if1 .taken) (c .refused .ensures) refl
 
 returns-2 : tie.Need-returns-2
-unfolding Accepted writeWord slot
 returns-2 c =
-    by-effect _ _ _ _ (put-tests _ _ _ _ ∙ sym (c .before .before .before .before .before .before .before .before .data-refusal .ensures) ∙ c .before .before .before .before .before .before .before .if1 .left)
-    (c .gives .ensures, rw (c .before .before .before .store .ensures, c .before .before .before .before .before .top-slot .ensures))
+    let d = c .before .before in
+    let o = d .before .before .before .before .before .before in
+    let v = o .before .before .before in
+    let t = v .before .before .before .before in
+    by-refusal _ _ _ _ _ (put-tests _ _ _ _ ∙ get-tests _ _ _ ∙ else-next _ _ _ (t .before .top-refusal .ensures) (t .if1 .left) ∙ sym (d .data-refusal .ensures ∙ rw (o .object-of .ensures, v .top-slot .ensures))) (c .before .if2 .taken) (c .refused2 .ensures) refl
+
+returns-3 : tie.Need-returns-3
+unfolding Accepted writeWord slot slotAt topFrame
+returns-3 c =
+    let h = c .before .before .before in
+    let d = h .before .before .before in
+    let o = d .before .before .before .before .before .before in
+    let v = o .before .before .before in
+    let t = v .before .before .before .before in
+    by-effect _ _ _ _ (put-tests _ _ _ _ ∙ get-tests _ _ _ ∙ else-next _ _ _ (t .before .top-refusal .ensures) (t .if1 .left) ∙ sym (d .data-refusal .ensures ∙ rw (o .object-of .ensures, v .top-slot .ensures)) ∙ h .before .before .if2 .left)
+    (c .gives .ensures, rw (h .store .ensures, v .top-slot .ensures))
 
 pub put-spec : {M : Type 1} → statement M
-put-spec = tie.close (tie.spec (λ c κs. search needs) (λ c κs. search needs) (λ c. search needs) returns (λ c κs. search needs) (λ c. search needs) (λ c. search needs) (λ c κs. search needs) (λ c κs. search needs) (λ c. search needs) returns-2)
+put-spec = tie.close (tie.spec (λ c κs. search needs) (λ c κs. search needs) returns (λ c κs. search needs) (λ c κs. search needs) (λ c κs. search needs) (λ c κs. search needs) (λ c. search needs) returns-2 (λ c. search needs) (λ c. search needs) (λ c κs. search needs) (λ c κs. search needs) (λ c. search needs) returns-3)

@@ -1,5 +1,9 @@
 use mathlib.Core.Path.{refl, sym, _∙_}
 use borrow.Author.Needs.{needs}
+use Rattle.frames.specs.Frames.{slotAt, topFrame}
+use Rattle.kinds.specs.Kinds.{sizeOf}
+use Rattle.objects.specs.Objects.{wordCount}
+use Rattle.objects.specs.Laws.Words.{object-header}
 use Rattle.outcomes.specs.Store.{slot}
 use Rattle.outcomes.specs.Outcome.{Accepted}
 use Rattle.outcomes.specs.Laws.Steps.{by-refusal, by-effect}
@@ -10,10 +14,12 @@ returns : tie.Need-returns
 returns c = by-refusal _ _ _ _ _ refl (λ z. c .before .if1 .taken (c .before .before .view-refusal .ensures ∙ z)) refl refl
 
 returns-2 : tie.Need-returns-2
-unfolding Accepted slot
+unfolding Accepted slot slotAt topFrame wordCount sizeOf
 returns-2 c =
-    let e = sym (c .before .before .before .before .before .before .view-refusal .ensures) ∙ c .before .before .before .before .before .if1 .left in
-    by-effect _ _ _ _ e (rw (e, c .words .ensures, c .before .word-count .ensures, c .before .before .top-slot .ensures), refl)
+    let v = c .before .before .before .before .before .before in
+    let i = v .before .before .before .before .before .before in
+    let e = sym (i .before .view-refusal .ensures) ∙ i .if1 .left in
+    by-effect _ _ _ _ e (rw (e, c .part .ensures, c .before .word-count .ensures, c .before .before .object-of .ensures, object-header, v .top-slot .ensures), refl)
 
 pub view-spec : {M : Type 1} → statement M
-view-spec = tie.close (tie.spec (λ c κs. search needs) (λ c. search needs) (λ c. search needs) (λ c. search needs) returns (λ c κs. search needs) (λ c. search needs) (λ c κs. search needs) (λ c. search needs) (λ c κs. search needs) returns-2)
+view-spec = tie.close (tie.spec (λ c κs. search needs) (λ c. search needs) (λ c. search needs) (λ c. search needs) returns (λ c κs. search needs) (λ c κs. search needs) (λ c κs. search needs) (λ c. search needs) (λ c. search needs) (λ c κs. search needs) returns-2)

@@ -1,6 +1,6 @@
+use mathlib.Core.Path.{_≡_, sym, _∙_}
 use borrow.Author.Needs.{needs}
 use borrow.Author.Tests.{eq-eqb, ne-eqb}
-use Rattle.outcomes.specs.Store.{slot}
 use Rattle.calls_words.proofs.Laws.{view-tests}
 use Rattle.calls_words.proofs.view_refusal.Statement.{statement}
 use Rattle.calls_words.proofs.view_refusal.Tie as tie
@@ -9,16 +9,26 @@ returns : tie.Need-returns
 returns c = rw (view-tests, ← c .before .top-refusal .ensures) (simp (ne-eqb _ _ (c .if1 .taken)))
 
 returns-2 : tie.Need-returns-2
-unfolding slot
-returns-2 c = rw (view-tests, ← c .before .before .before .top-refusal .ensures, ← c .before .top-slot .ensures) (simp (eq-eqb _ _ (c .before .before .if1 .left), eq-eqb _ _ (c .if2 .taken)))
+returns-2 c =
+    let v = c .before in
+    let t = v .before .before .before .before in
+    rw (view-tests, ← t .before .top-refusal .ensures, ← v .top-slot .ensures) (simp (eq-eqb _ _ (t .if1 .left), eq-eqb _ _ (c .if2 .taken)))
 
 returns-3 : tie.Need-returns-3
-unfolding slot
-returns-3 c = rw (view-tests, ← c .before .before .before .before .before .before .before .top-refusal .ensures, ← c .before .before .before .before .before .top-slot .ensures, ← c .before .before .kind-of .ensures, ← c .before .all-data .ensures) (simp (eq-eqb _ _ (c .before .before .before .before .before .before .if1 .left), ne-eqb _ _ (c .before .before .before .before .if2 .left), c .if3 .taken))
+returns-3 c =
+    let k = c .before .before .before .before .before .before .before in
+    let i = k .before .before .before in
+    let v = i .before in
+    let t = v .before .before .before .before in
+    rw (view-tests, ← t .before .top-refusal .ensures, ← v .top-slot .ensures, ← k .before .object-of .ensures, ← k .kind-of .ensures, ← c .before .all-data .ensures) (simp (eq-eqb _ _ (t .if1 .left), ne-eqb _ _ (i .if2 .left), c .if3 .taken))
 
 returns-4 : tie.Need-returns-4
-unfolding slot
-returns-4 c = rw (view-tests, ← c .before .before .before .before .before .before .before .top-refusal .ensures, ← c .before .before .before .before .before .top-slot .ensures, ← c .before .before .kind-of .ensures, ← c .before .all-data .ensures) (simp (eq-eqb _ _ (c .before .before .before .before .before .before .if1 .left), ne-eqb _ _ (c .before .before .before .before .if2 .left), c .if3 .left))
+returns-4 c =
+    let k = c .before .before .before .before .before .before .before in
+    let i = k .before .before .before in
+    let v = i .before in
+    let t = v .before .before .before .before in
+    rw (view-tests, ← t .before .top-refusal .ensures, ← v .top-slot .ensures, ← k .before .object-of .ensures, ← k .kind-of .ensures, ← c .before .all-data .ensures) (simp (eq-eqb _ _ (t .if1 .left), ne-eqb _ _ (i .if2 .left), c .if3 .left))
 
 pub view-refusal-spec : {M : Type 1} → statement M
-view-refusal-spec = tie.close (tie.spec (λ c κs. search needs) returns (λ c κs. search needs) returns-2 (λ c κs. search needs) (λ c κs. search needs) returns-3 returns-4)
+view-refusal-spec = tie.close (tie.spec (λ c κs. search needs) returns (λ c κs. search needs) returns-2 (λ c κs. search needs) (λ c κs. search needs) (λ c κs. search needs) returns-3 returns-4)
