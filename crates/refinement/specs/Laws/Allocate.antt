@@ -26,8 +26,7 @@ use Rattle.model.specs.Laws.Counts.{object-stored}
 use Rattle.kinds.specs.Kinds.{sizeOf}
 use Rattle.regions.specs.declared.Regions.{Regions}
 use Rattle.regions.specs.Regions.{nameAt, entryOf, tagOf, parentAt, levelAt, newestAt, oldestAt, withPage}
-use Rattle.regions.specs.Laws.Added as regions
-use Rattle.regions.specs.Laws.Added.{page-entry, page-tag, newest-here, newest-else, oldest-here, oldest-else}
+use Rattle.regions.specs.Laws.Added.{count-kept, page-entry, page-tag, newest-here, newest-else, oldest-here, oldest-else}
 use Rattle.pages.specs.declared.Pages.{Pages}
 use Rattle.pages.specs.Pages.{pageCount, ownerAt, takenAt, isFree, pagesOf, withTaken}
 use Rattle.pages.specs.Laws.Taken.{owner-here, owner-else, taken-here, taken-else, pages-moved}
@@ -230,7 +229,7 @@ module _ (L : Model) (sp : List ℕ) (ids : ℕ → List ℕ) (S : Store) (v : V
         onPages = rw length-sets (pages-made L sp g p (length (S .heap)) (rep .onRegions) (rep .onPages) (sh .inRegions) (sh .inPages) r k j t o lr room jm takes);
         onObjects = objects-made L sp ids g p (S .heap) v (rep .onRegions) oa r k j t base lr room jm (omega (arith, sh .inPages .owners .0, rep .onPages .most)) (omega (arith, sh .inPages .taken .0, rep .onPages .most))
             (omega (arith, rep .onPages .whole)) onto (withPage g i (j + 1) o) (page-tag g i (j + 1) o);
-        counts = λ q l. let m = sym (made-lives L r k q) ∙ l in rw (page-entry g i (j + 1) o q, regions.page-count g i (j + 1) o (entryOf g q)) (rep .counts q m ∙ sym (object-stored L q v (live-positive (L .regions) q (v .names .named) m) r k));
+        counts = λ q l. let m = sym (made-lives L r k q) ∙ l in rw (page-entry g i (j + 1) o q, count-kept g i (j + 1) o (entryOf g q)) (rep .counts q m ∙ sym (object-stored L q v (live-positive (L .regions) q (v .names .named) m) r k));
       }
     where
       kept : (a q : ℕ) → Known L q → spot (sp ++ (a ∷ [])) q ≡ spot sp q

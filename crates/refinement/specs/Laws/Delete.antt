@@ -30,8 +30,7 @@ use Rattle.frames.specs.Frames.{frameCount, widthAt, slotAt, raised}
 use Rattle.regions.specs.declared.Regions.{Regions}
 use Rattle.regions.specs.Regions.{nameAt, entryOf, tagOf, parentAt, levelAt, newestAt, oldestAt, countAt, withoutRegion, recount}
 use Rattle.regions.specs.Laws.Recount.{recount-beside}
-use Rattle.regions.specs.Laws.Removed as removed
-use Rattle.regions.specs.Laws.Removed.{name-removed, name-left, entry-left, tag-left}
+use Rattle.regions.specs.Laws.Removed.{count-stays, name-removed, name-left, entry-left, tag-left}
 use Rattle.pages.specs.declared.Pages.{Pages}
 use Rattle.pages.specs.Pages.{pageCount, ownerAt, ownerOf, freed}
 use Rattle.pages.specs.Laws.Gone.{gone-owner, gone-other, gone-pages, gone-held, gone-pointer, gone-free}
@@ -286,6 +285,6 @@ delete-step L sp ids S v h a T r shaped small e (x, y) =
         onObjects = objects-left v g long r l n subs p o refl;
         counts = λ q k.
             let m = other v g long r l n subs q k in
-            removed.count-left now (entryOf now r) _ ∙ ap (countAt now) (entry-kept v g long r l n subs q k ∙ same-entry b q) ∙ count-left S v h q (m .0) r l (m .1) (small q);
+            count-stays now (entryOf now r) _ ∙ ap (countAt now) (entry-kept v g long r l n subs q k ∙ same-entry b q) ∙ count-left S v h q (m .0) r l (m .1) (small q);
       }),
     )
