@@ -10,14 +10,7 @@ fn within(a: u32, b: u32, n: u32) -> bool
 }
 
 // The limits on single numbers, m, and the length n of the heap.
-fn numbers_fit(
-    made: u32,
-    n: usize,
-    declared: u32,
-    standing: u32,
-    counted: u32,
-    given: u32,
-) -> bool
+fn numbers_fit(made: u32, n: usize, declared: u32, standing: u32, counted: u32, given: u32) -> bool
     ensures { λ r. ⌜ r ≡ numbersFit made n declared standing counted given ⌝ }
 {
     if !within(1, 256, made) {
@@ -133,13 +126,7 @@ fn region_fits<'a>(
     placed(names, parents, levels, i)
 }
 
-fn entry_fits<'a>(
-    given: u32,
-    names: &'a [u32],
-    parents: &'a [u8],
-    levels: &'a [u8],
-    i: u32,
-) -> bool
+fn entry_fits<'a>(given: u32, names: &'a [u32], parents: &'a [u8], levels: &'a [u8], i: u32) -> bool
     ensures { λ r. ⌜ r ≡ entryFits given (now (names .entry)) (now (parents .entry)) (now (levels .entry)) i ⌝ }
 {
     if regions::name_at(names, i) == 0 {
