@@ -102,9 +102,8 @@ pub fn drop(s: State, heap: &[u32]) -> Done
         };
     }
     let m = t.frames.counted;
-    let mut r = t.regions;
-    regions::counts_shaped(r);
-    let mut c = r.counts;
+    regions::counts_shaped(t.regions);
+    let mut c = t.regions.counts;
     uncount_top(
         n,
         m,
@@ -113,6 +112,7 @@ pub fn drop(s: State, heap: &[u32]) -> Done
         &t.pages.owners,
         &mut c,
     );
+    let mut r = t.regions;
     r.counts = c;
     t.regions = r;
     t.frames.counted = frames::counted_after(n, m);
@@ -139,9 +139,8 @@ pub fn hand_back(s: State, heap: &[u32], slot: u32, beneath: u32) -> Done
     }
     let v = checks::top_slot(n, &t.frames.slots, slot);
     let m = t.frames.counted;
-    let mut r = t.regions;
-    regions::counts_shaped(r);
-    let mut c = r.counts;
+    regions::counts_shaped(t.regions);
+    let mut c = t.regions.counts;
     uncount_top(
         n,
         m,
@@ -150,6 +149,7 @@ pub fn hand_back(s: State, heap: &[u32], slot: u32, beneath: u32) -> Done
         &t.pages.owners,
         &mut c,
     );
+    let mut r = t.regions;
     r.counts = c;
     t.regions = r;
     t.frames.counted = frames::counted_after(n, m);

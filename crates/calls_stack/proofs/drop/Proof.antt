@@ -16,7 +16,7 @@ unfolding Accepted topFrame popped withCounts
 returns-2 c =
     let t = c .before .before in
     let k = t .before .before in
-    let u = k .before .before in
+    let u = k .before .before .before in
     let z = u .before .before .before .before .before .before .before .before .before .before in
     let i = z .before .before in
     by-effect _ _ _ _ (drop-tests _ ∙ sym (i .before .drop-refusal .ensures) ∙ i .if1 .left)
