@@ -11,10 +11,9 @@ use borrow.Author.Tests.{leb-true}
 use Rattle.lists.specs.Lists.{All, from}
 use Rattle.lists.specs.Laws.Tests.{by-test, by-same, both}
 use Rattle.model.specs.Model.{Call, view, refusedBy}
-use Rattle.state.specs.declared.State.{State}
 use Rattle.state.specs.declared.Reply.{Reply}
 use Rattle.outcomes.specs.Store.{Store, slot}
-use Rattle.outcomes.specs.Outcome.{Accepted, answerOf, store, refusal, viewed}
+use Rattle.outcomes.specs.Outcome.{Accepted, answerOf, refusal, viewed}
 use Rattle.outcomes.specs.Laws.Steps.{by-refusal, by-effect}
 use Rattle.store.specs.Dispatch.{decoded, OutcomeOf, DispatchedBy, Dispatched}
 
@@ -38,10 +37,6 @@ module _ (n a b c : ℕ) (ms : List ℕ) (S : Store) (r : Reply) (T : Store) whe
   pub by-none : All (λ k. n ≢ k) (from 2 22) → answerOf r [] ≡ refusedBy 24 → T ≡ S → Dispatched n a b c ms S r T
   unfolding Dispatched
   by-none h p q = subst⁻¹ (λ x. DispatchedBy x (decoded n a b c ms) S r T) (outside n h) (p, q)
-
--- a call that leaves the state, and its reply handed on
-pub by-reply : (c : Call) (S : Store) (s t : State) (heap : List ℕ) (q r : Reply) → (t ≡ s) × (q ≡ r) → OutcomeOf c S r (store s heap) → OutcomeOf c S q (store t heap)
-by-reply c S s t heap q r e h = subst⁻¹ (λ x. OutcomeOf c S x (store t heap)) (e .1) (subst⁻¹ (λ u. OutcomeOf c S r (store u heap)) (e .0) h)
 
 -- view's number beside the part that it would hand back
 pub view-outcome : (S : Store) (a : ℕ) (r : Reply) (n : ℕ) → n ≡ refusal S (view a) → answerOf r [] ≡ refusedBy n → OutcomeOf (view a) S r S

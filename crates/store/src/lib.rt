@@ -26,19 +26,8 @@ pub use calls_words::view_refusal;
 pub use state::Done;
 pub use state::Reply;
 pub use state::State;
-ghost use mathlib.Core.Path.{_≡_};
 ghost use Rattle.outcomes.specs.Outcome.{store};
 ghost use Rattle.store.specs.Dispatch.{Dispatched};
-
-// A call that leaves the state as it was.
-fn unchanged(s: State, reply: Reply) -> Done
-    ensures { λ r. ⌜ (r .state ≡ s) × (r .reply ≡ reply) ⌝ }
-{
-    Done {
-        state: s,
-        reply: reply,
-    }
-}
 
 // The call numbered `number` in document 01, 2 to 23, with its arguments from the left; what it does not take is ignored, and only declare takes marks.
 // A number that is no call's is answered 24. View's part is had from `view`.
@@ -59,15 +48,42 @@ pub fn call(s: State, heap: &mut [u32], number: u32, a: u32, b: u32, c: u32, mar
         12 => clear(s, heap, a),
         13 => load(s, heap, a, b, c),
         14 => set_pointer(s, heap, a, b, c),
-        15 => unchanged(s, put(s, heap, a, b, c)),
-        16 => unchanged(s, get(s, heap, a, b)),
-        17 => unchanged(s, checks::refused(view_refusal(s, heap, a))),
-        18 => unchanged(s, same(s, heap, a, b)),
-        19 => unchanged(s, about(s, heap, a)),
-        20 => unchanged(s, report(s, heap, a)),
-        21 => unchanged(s, totals(s)),
-        22 => unchanged(s, audit(s, heap)),
+        15 => Done {
+            state: s,
+            reply: put(s, heap, a, b, c),
+        },
+        16 => Done {
+            state: s,
+            reply: get(s, heap, a, b),
+        },
+        17 => Done {
+            state: s,
+            reply: checks::refused(view_refusal(s, heap, a)),
+        },
+        18 => Done {
+            state: s,
+            reply: same(s, heap, a, b),
+        },
+        19 => Done {
+            state: s,
+            reply: about(s, heap, a),
+        },
+        20 => Done {
+            state: s,
+            reply: report(s, heap, a),
+        },
+        21 => Done {
+            state: s,
+            reply: totals(s),
+        },
+        22 => Done {
+            state: s,
+            reply: audit(s, heap),
+        },
         23 => delete(s, heap, a),
-        _ => unchanged(s, checks::refused(24)),
+        _ => Done {
+            state: s,
+            reply: checks::refused(24),
+        },
     }
 }

@@ -2,7 +2,7 @@ use mathlib.Core.Path.{refl}
 use mathlib.Core.List.{[]}
 use borrow.Author.Needs.{needs}
 use Rattle.store.specs.Dispatch.{decoded}
-use Rattle.store.proofs.Laws.{by-number, by-none, by-reply, view-outcome}
+use Rattle.store.proofs.Laws.{by-number, by-none, view-outcome}
 use Rattle.store.proofs.call.Statement.{statement}
 use Rattle.store.proofs.call.Tie as tie
 
@@ -60,35 +60,35 @@ returns-13 c = by-number _ _ _ _ _ _ _ _ 14 (c .before .before .before .before .
 
 returns-14 : tie.Need-returns-14
 unfolding decoded
-returns-14 c = by-number _ _ _ _ _ _ _ _ 15 (c .before .before .before .before .before .match .keys14) (by-reply _ _ _ _ _ _ _ (c .unchanged .ensures) ([], c .before .before .before .put .ensures))
+returns-14 c = by-number _ _ _ _ _ _ _ _ 15 (c .before .before .before .before .match .keys14) ([], c .before .before .put .ensures)
 
 returns-15 : tie.Need-returns-15
 unfolding decoded
-returns-15 c = by-number _ _ _ _ _ _ _ _ 16 (c .before .before .before .match .keys15) (by-reply _ _ _ _ _ _ _ (c .unchanged2 .ensures) ([], c .before .get .ensures))
+returns-15 c = by-number _ _ _ _ _ _ _ _ 16 (c .before .before .match .keys15) ([], c .get .ensures)
 
 returns-16 : tie.Need-returns-16
 unfolding decoded
-returns-16 c = by-number _ _ _ _ _ _ _ _ 17 (c .before .before .before .before .match .keys16) (by-reply _ _ _ _ _ _ _ (c .unchanged3 .ensures) (view-outcome _ _ _ _ (c .before .before .view-refusal .ensures) (c .before .refused .ensures)))
+returns-16 c = by-number _ _ _ _ _ _ _ _ 17 (c .before .before .before .match .keys16) (view-outcome _ _ _ _ (c .before .view-refusal .ensures) (c .refused .ensures))
 
 returns-17 : tie.Need-returns-17
 unfolding decoded
-returns-17 c = by-number _ _ _ _ _ _ _ _ 18 (c .before .before .before .match .keys17) (by-reply _ _ _ _ _ _ _ (c .unchanged4 .ensures) ([], c .before .same .ensures))
+returns-17 c = by-number _ _ _ _ _ _ _ _ 18 (c .before .before .match .keys17) ([], c .same .ensures)
 
 returns-18 : tie.Need-returns-18
 unfolding decoded
-returns-18 c = by-number _ _ _ _ _ _ _ _ 19 (c .before .before .before .match .keys18) (by-reply _ _ _ _ _ _ _ (c .unchanged5 .ensures) ([], c .before .about .ensures))
+returns-18 c = by-number _ _ _ _ _ _ _ _ 19 (c .before .before .match .keys18) ([], c .about .ensures)
 
 returns-19 : tie.Need-returns-19
 unfolding decoded
-returns-19 c = by-number _ _ _ _ _ _ _ _ 20 (c .before .before .before .match .keys19) (by-reply _ _ _ _ _ _ _ (c .unchanged6 .ensures) ([], c .before .report .ensures))
+returns-19 c = by-number _ _ _ _ _ _ _ _ 20 (c .before .before .match .keys19) ([], c .report .ensures)
 
 returns-20 : tie.Need-returns-20
 unfolding decoded
-returns-20 c = by-number _ _ _ _ _ _ _ _ 21 (c .before .before .match .keys20) (by-reply _ _ _ _ _ _ _ (c .unchanged7 .ensures) ([], c .before .totals .ensures _))
+returns-20 c = by-number _ _ _ _ _ _ _ _ 21 (c .before .match .keys20) ([], c .totals .ensures _)
 
 returns-21 : tie.Need-returns-21
 unfolding decoded
-returns-21 c = by-number _ _ _ _ _ _ _ _ 22 (c .before .before .before .match .keys21) (by-reply _ _ _ _ _ _ _ (c .unchanged8 .ensures) ([], c .before .audit .ensures .0))
+returns-21 c = by-number _ _ _ _ _ _ _ _ 22 (c .before .before .match .keys21) ([], c .audit .ensures .0)
 
 returns-22 : tie.Need-returns-22
 unfolding decoded
@@ -96,8 +96,8 @@ returns-22 c = by-number _ _ _ _ _ _ _ _ 23 (c .before .before .match .keys22) (
 
 returns-23 : tie.Need-returns-23
 returns-23 c =
-    let r = c .before .before .match .rest in
-    by-none _ _ _ _ _ _ _ _ (r .0 .0 .0 .0 .0 .0 .0 .0 .0 .0 .0 .0 .0 .0 .0 .0 .0 .0 .0 .0 .0 .1, (r .0 .0 .0 .0 .0 .0 .0 .0 .0 .0 .0 .0 .0 .0 .0 .0 .0 .0 .0 .0 .1, (r .0 .0 .0 .0 .0 .0 .0 .0 .0 .0 .0 .0 .0 .0 .0 .0 .0 .0 .0 .1, (r .0 .0 .0 .0 .0 .0 .0 .0 .0 .0 .0 .0 .0 .0 .0 .0 .0 .0 .1, (r .0 .0 .0 .0 .0 .0 .0 .0 .0 .0 .0 .0 .0 .0 .0 .0 .0 .1, (r .0 .0 .0 .0 .0 .0 .0 .0 .0 .0 .0 .0 .0 .0 .0 .0 .1, (r .0 .0 .0 .0 .0 .0 .0 .0 .0 .0 .0 .0 .0 .0 .0 .1, (r .0 .0 .0 .0 .0 .0 .0 .0 .0 .0 .0 .0 .0 .0 .1, (r .0 .0 .0 .0 .0 .0 .0 .0 .0 .0 .0 .0 .0 .1, (r .0 .0 .0 .0 .0 .0 .0 .0 .0 .0 .0 .0 .1, (r .0 .0 .0 .0 .0 .0 .0 .0 .0 .0 .0 .1, (r .0 .0 .0 .0 .0 .0 .0 .0 .0 .0 .1, (r .0 .0 .0 .0 .0 .0 .0 .0 .0 .1, (r .0 .0 .0 .0 .0 .0 .0 .0 .1, (r .0 .0 .0 .0 .0 .0 .0 .1, (r .0 .0 .0 .0 .0 .0 .1, (r .0 .0 .0 .0 .0 .1, (r .0 .0 .0 .0 .1, (r .0 .0 .0 .1, (r .0 .0 .1, (r .0 .1, (r .1, tt)))))))))))))))))))))) (rw (c .unchanged9 .ensures .1) (c .before .refused2 .ensures)) (rw (c .unchanged9 .ensures .0) refl)
+    let r = c .before .match .rest in
+    by-none _ _ _ _ _ _ _ _ (r .0 .0 .0 .0 .0 .0 .0 .0 .0 .0 .0 .0 .0 .0 .0 .0 .0 .0 .0 .0 .0 .1, (r .0 .0 .0 .0 .0 .0 .0 .0 .0 .0 .0 .0 .0 .0 .0 .0 .0 .0 .0 .0 .1, (r .0 .0 .0 .0 .0 .0 .0 .0 .0 .0 .0 .0 .0 .0 .0 .0 .0 .0 .0 .1, (r .0 .0 .0 .0 .0 .0 .0 .0 .0 .0 .0 .0 .0 .0 .0 .0 .0 .0 .1, (r .0 .0 .0 .0 .0 .0 .0 .0 .0 .0 .0 .0 .0 .0 .0 .0 .0 .1, (r .0 .0 .0 .0 .0 .0 .0 .0 .0 .0 .0 .0 .0 .0 .0 .0 .1, (r .0 .0 .0 .0 .0 .0 .0 .0 .0 .0 .0 .0 .0 .0 .0 .1, (r .0 .0 .0 .0 .0 .0 .0 .0 .0 .0 .0 .0 .0 .0 .1, (r .0 .0 .0 .0 .0 .0 .0 .0 .0 .0 .0 .0 .0 .1, (r .0 .0 .0 .0 .0 .0 .0 .0 .0 .0 .0 .0 .1, (r .0 .0 .0 .0 .0 .0 .0 .0 .0 .0 .0 .1, (r .0 .0 .0 .0 .0 .0 .0 .0 .0 .0 .1, (r .0 .0 .0 .0 .0 .0 .0 .0 .0 .1, (r .0 .0 .0 .0 .0 .0 .0 .0 .1, (r .0 .0 .0 .0 .0 .0 .0 .1, (r .0 .0 .0 .0 .0 .0 .1, (r .0 .0 .0 .0 .0 .1, (r .0 .0 .0 .0 .1, (r .0 .0 .0 .1, (r .0 .0 .1, (r .0 .1, (r .1, tt)))))))))))))))))))))) (c .refused2 .ensures) refl
 
 pub call-spec : {M : Type 1} → statement M
-call-spec = tie.close (tie.spec (λ c κs. search needs) (λ c κs. search needs) (λ c κs. search needs) (λ c κs. search needs) (λ c κs. search needs) (λ c κs. search needs) (λ c κs. search needs) (λ c κs. search needs) (λ c κs. search needs) (λ c κs. search needs) (λ c κs. search needs) (λ c κs. search needs) (λ c κs. search needs) (λ c κs. search needs) (λ c κs. search needs) (λ c κs. search needs) (λ c κs. search needs) (λ c κs. search needs) (λ c κs. search needs) (λ c κs. search needs) (λ c κs. search needs) (λ c κs. search needs) (λ c κs. search needs) (λ c κs. search needs) (λ c κs. search needs) (λ c κs. search needs) (λ c κs. search needs) (λ c κs. search needs) (λ c κs. search needs) (λ c κs. search needs) (λ c κs. search needs) (λ c κs. search needs) (λ c κs. search needs) (λ c. search needs) returns (λ c. search needs) returns-2 (λ c. search needs) returns-3 (λ c. search needs) returns-4 (λ c. search needs) returns-5 (λ c. search needs) returns-6 (λ c. search needs) returns-7 (λ c. search needs) returns-8 (λ c. search needs) returns-9 (λ c. search needs) returns-10 (λ c. search needs) returns-11 (λ c. search needs) returns-12 (λ c. search needs) returns-13 (λ c. search needs) returns-14 (λ c. search needs) returns-15 (λ c. search needs) returns-16 (λ c. search needs) returns-17 (λ c. search needs) returns-18 (λ c. search needs) returns-19 returns-20 (λ c. search needs) returns-21 (λ c. search needs) returns-22 returns-23)
+call-spec = tie.close (tie.spec (λ c κs. search needs) (λ c κs. search needs) (λ c κs. search needs) (λ c κs. search needs) (λ c κs. search needs) (λ c κs. search needs) (λ c κs. search needs) (λ c κs. search needs) (λ c κs. search needs) (λ c κs. search needs) (λ c κs. search needs) (λ c κs. search needs) (λ c κs. search needs) (λ c κs. search needs) (λ c κs. search needs) (λ c κs. search needs) (λ c κs. search needs) (λ c κs. search needs) (λ c κs. search needs) (λ c κs. search needs) (λ c κs. search needs) (λ c κs. search needs) (λ c κs. search needs) (λ c κs. search needs) (λ c. search needs) returns (λ c. search needs) returns-2 (λ c. search needs) returns-3 (λ c. search needs) returns-4 (λ c. search needs) returns-5 (λ c. search needs) returns-6 (λ c. search needs) returns-7 (λ c. search needs) returns-8 (λ c. search needs) returns-9 (λ c. search needs) returns-10 (λ c. search needs) returns-11 (λ c. search needs) returns-12 (λ c. search needs) returns-13 (λ c. search needs) returns-14 (λ c. search needs) returns-15 (λ c. search needs) returns-16 (λ c. search needs) returns-17 (λ c. search needs) returns-18 (λ c. search needs) returns-19 returns-20 (λ c. search needs) returns-21 (λ c. search needs) returns-22 returns-23)
