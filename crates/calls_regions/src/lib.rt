@@ -303,8 +303,9 @@ pub fn allocate(s: State, heap: &mut [u32], slot: u32, region: u32, kind: u32) -
     }
     let e = regions::entry_of(&t.regions.names, region);
     let n = kinds::size_of(t.kinds.declared, &t.kinds.sizes, kind);
+    let words = 1 + n;
     let q = regions::newest_at(&t.regions.newest, e);
-    let v = place_for(t.pages.made, &t.pages.owners, &t.pages.taken, q, 1 + n);
+    let v = place_for(t.pages.made, &t.pages.owners, &t.pages.taken, q, words);
     let g = allocate_refusal(t.kinds.declared, e, kind, v);
     if g != 0 {
         return Done {
@@ -316,7 +317,7 @@ pub fn allocate(s: State, heap: &mut [u32], slot: u32, region: u32, kind: u32) -
     let j = at / 64;
     let tag = (e + 1) as u8;
     let newest = (j + 1) as u16;
-    let taken = (at % 64 + (1 + n)) as u8;
+    let taken = (at % 64 + words) as u8;
     let o = oldest_with(&t.regions.oldest, e, v);
     cells::lay(heap, at, kind, n);
     regions::put_half(&mut t.regions.newest, e, newest);
