@@ -6,7 +6,7 @@ use mathlib.Core.List.{List, [], _∷_}
 use Prim.Native.Nat.{ℕ, _+_, _-_, _*_, _/_, _%_, _<_, _≤_}
 use native.Mathlib.Omega.{arith}
 use lib.Dec.{eqb, ltb, leb}
-use lib.ListN.{length, replicate}
+use lib.ListN.{length, getD, replicate}
 use lib.Seq.{sets}
 use borrow.Author.Tests.{eqb-true, eqb-false, ltb-true, leb-false, not-false, eq-eqb, ne-eqb, lt-ltb, le-ltb}
 use Rattle.lists.specs.Lists.{pick}
@@ -14,54 +14,54 @@ use Rattle.lists.specs.Laws.Tests.{neither, by-test}
 use Rattle.model.specs.Model.{Answer, allocate, gives}
 use Rattle.model.specs.Calls.{reason, _yields_}
 use Rattle.model.specs.Laws.Passed.{all-passed}
-use Rattle.kinds.specs.declared.Kinds.{Kinds}
-use Rattle.kinds.specs.Kinds.{kindCount, sizeOf, wrongMarks}
-use Rattle.regions.specs.declared.Regions.{Regions}
-use Rattle.regions.specs.Regions.{entryOf, isLive, levelAt, newestAt}
+use Rattle.kinds.specs.Kinds.{kindCount, kindsOf, sizeIn, sizeOf, wrongMarks}
+use Rattle.regions.specs.Regions.{entryIn, entryOf, isLive, newestAt, oldestAt, withPage}
 use Rattle.pages.specs.declared.Pages.{Pages}
-use Rattle.pages.specs.Pages.{pageCount, takenAt, isFree, firstFree, pagesOf}
+use Rattle.pages.specs.Pages.{pageCount, takenAt, takenIn, isFree, firstFree, pagesOf, withTaken}
 use Rattle.pages.specs.Laws.Free.{first-none, first-some, first-free}
-use Rattle.state.specs.declared.State.{State}
-use Rattle.outcomes.specs.Store.{Store, regions, pages, size, roomy}
-use Rattle.outcomes.specs.Outcome.{Chosen, store, refusal, checks, dead, fillSlot, allocated, Accepted}
+use Rattle.outcomes.specs.Store.{Store, frames, kinds, regions, pages, size, roomy}
+use Rattle.outcomes.specs.Outcome.{Chosen, store, withRegions, withPages, withHeap, refusal, checks, dead, fillSlot, allocated, Accepted}
 use Rattle.outcomes.specs.Laws.Values.{size-most}
-use Rattle.checks.specs.Checks.{orElse, topTests}
-use Rattle.checks.specs.Laws.Tests.{one-slot, else-first, else-next}
+use Rattle.checks.specs.Checks.{orElse}
+use Rattle.checks.specs.Laws.Tests.{top, one-slot, else-first, else-next}
 use Rattle.calls_regions.specs.Tests.{declareTests, moreTests, newTests, subregionTests, allocateTests}
-use Rattle.calls_regions.specs.Places.{freePlace, placeFor, oldestWith, withObject}
+use Rattle.calls_regions.specs.Places.{freePlace, placeFor, oldestWith}
 
 -- g is what a function gave for the tests, and it accepts
-pub declare-passed : (p : Pages) (n : ℕ) (k : Kinds) (ms : List ℕ) (g : ℕ) → g ≡ reason (declareTests p n k ms) → g ≡ 0 → (wrongMarks ms || leb 16 (k .declared)) ≡ false
+pub declare-passed : (made n declared : ℕ) (ms : List ℕ) (g : ℕ) → g ≡ reason (declareTests made n declared ms) → g ≡ 0 → (wrongMarks ms ≡ false) × (declared < 16)
 unfolding declareTests
-declare-passed p n k ms g e z = let t = all-passed (declareTests p n k ms) refl (sym e ∙ z) in rw (t .1 .0, t .1 .1 .0)
+declare-passed made n declared ms g e z = let t = all-passed (declareTests made n declared ms) refl (sym e ∙ z) in (t .1 .0, leb-false 16 declared (t .1 .1 .0))
 
-pub new-passed : (p : Pages) (n : ℕ) (r : Regions) (g : ℕ) → g ≡ reason (newTests p n r) → g ≡ 0 → r .given < 4294967295
+pub new-passed : (made n : ℕ) (names : List ℕ) (given g : ℕ) → g ≡ reason (newTests made n names given) → g ≡ 0 → given < 1000000
 unfolding newTests moreTests
-new-passed p n r g e z = omega (arith, leb-false 1000000 (r .given) (all-passed (newTests p n r) refl (sym e ∙ z) .1 .1 .0))
+new-passed made n names given g e z = leb-false 1000000 given (all-passed (newTests made n names given) refl (sym e ∙ z) .1 .1 .0)
 
-pub subregion-passed : (p : Pages) (n : ℕ) (r : Regions) (i g : ℕ) → g ≡ reason (subregionTests p n r i) → g ≡ 0 → (i < 64) × (levelAt r i < 16) × (r .given < 4294967295)
+pub subregion-passed : (made n : ℕ) (names levels : List ℕ) (given i g : ℕ) → g ≡ reason (subregionTests made n names levels given i) → g ≡ 0
+    → (i < 64) × (getD levels i 0 < 16) × (given < 1000000)
 unfolding subregionTests moreTests
-subregion-passed p n r i g e z =
-    let t = all-passed (subregionTests p n r i) refl (sym e ∙ z) .1 in
-    (ltb-true i 64 (not-false _ (t .0)), leb-false 16 (levelAt r i) (t .1 .0), omega (arith, leb-false 1000000 (r .given) (t .1 .1 .1 .0)))
+subregion-passed made n names levels given i g e z =
+    let t = all-passed (subregionTests made n names levels given i) refl (sym e ∙ z) .1 in
+    (ltb-true i 64 (not-false _ (t .0)), leb-false 16 (getD levels i 0) (t .1 .0), leb-false 1000000 given (t .1 .1 .1 .0))
 
-pub object-passed : (k : Kinds) (i kind v g : ℕ) → g ≡ reason (allocateTests k i kind v) → g ≡ 0 → (i < 64) × (v ≢ 0)
+pub object-passed : (declared i kind v g : ℕ) → g ≡ reason (allocateTests declared i kind v) → g ≡ 0 → (i < 64) × (v ≢ 0)
 unfolding allocateTests
-object-passed k i kind v g e z = let t = all-passed (allocateTests k i kind v) refl (sym e ∙ z) in (ltb-true i 64 (not-false _ (t .0)), eqb-false v 0 (t .1 .1 .0))
+object-passed declared i kind v g e z =
+    let t = all-passed (allocateTests declared i kind v) refl (sym e ∙ z) in (ltb-true i 64 (not-false _ (t .0)), eqb-false v 0 (t .1 .1 .0))
 
-pub pages-most : (p : Pages) → pageCount p ≤ 256
-unfolding pageCount
-pages-most p = omega arith
+pub size-small : (declared : ℕ) (sizes : List ℕ) (n m : ℕ) → m ≡ sizeIn declared sizes n → m ≤ 16
+unfolding sizeOf
+size-small declared sizes n m e = rw e (size-most (kindsOf declared sizes []) n)
 
-pub size-small : (k : Kinds) (n m : ℕ) → m ≡ sizeOf k n → m ≤ 16
-size-small k n m e = rw e (size-most k n)
-
-free-none : (p : Pages) → eqb (freePlace p) 0 ≡ eqb (pagesOf p 0) 0
-unfolding freePlace
+free-none : (p : Pages) → eqb (freePlace (p .made) (p .owners)) 0 ≡ eqb (pagesOf p 0) 0
+unfolding freePlace firstFree pageCount
 free-none p =
     by-test (eqb (pagesOf p 0) 0)
     (λ e. rw (e, first-none p (eqb-true (pagesOf p 0) 0 e), le-ltb (pageCount p) (pageCount p) (omega arith)))
     (λ e. rw (e, lt-ltb (firstFree p) (pageCount p) (first-some p (eqb-false (pagesOf p 0) 0 e))) (ne-eqb (64 * firstFree p + 1) 0 (λ q. omega arith)))
+
+-- a store is its parts
+pub by-parts : (S T : Store) → frames S ≡ frames T → kinds S ≡ kinds T → regions S ≡ regions T → pages S ≡ pages T → S .heap ≡ T .heap → S ≡ T
+by-parts S T f k r p h = λ i. store (record { frames = f i; kinds = k i; regions = r i; pages = p i }) (h i)
 
 module _ (S : Store) (i n : ℕ) where
   abbrev newest : ℕ
@@ -73,12 +73,18 @@ module _ (S : Store) (i n : ℕ) where
   abbrev noRoom : Bool
   noRoom = eqb newest 0 || leb 65 (takenAt (pages S) (newest - 1) + n)
 
+  abbrev lowest : ℕ
+  lowest = freePlace ((pages S) .made) ((pages S) .owners)
+
+  abbrev place : ℕ
+  place = let p = pages S in placeFor (p .made) (p .owners) (p .taken) (getD ((regions S) .newest) i 0) n
+
   -- no place is what 13 asks
-  pub place-none : eqb (placeFor (regions S) (pages S) i n) 0 ≡ (not (roomy S i n) && eqb (pagesOf (pages S) 0) 0)
-  unfolding placeFor roomy
+  pub place-none : eqb place 0 ≡ (not (roomy S i n) && eqb (pagesOf (pages S) 0) 0)
+  unfolding placeFor roomy newestAt takenAt
   place-none = go noRoom
     where
-      go : (b : Bool) → eqb (pick b (freePlace (pages S)) behind) 0 ≡ (not (not b) && eqb (pagesOf (pages S) 0) 0)
+      go : (b : Bool) → eqb (pick b lowest behind) 0 ≡ (not (not b) && eqb (pagesOf (pages S) 0) 0)
       go true = free-none (pages S)
       go false = ne-eqb behind 0 (λ q. omega arith)
 
@@ -86,13 +92,13 @@ module _ (S : Store) (i n : ℕ) where
   start j = pick (roomy S i n) (takenAt (pages S) j) 0
 
   -- a place is on a page that may be chosen
-  pub place-some : 0 < n → placeFor (regions S) (pages S) i n ≢ 0 → (j : ℕ) × Chosen S i n j × (start j < 64) × (placeFor (regions S) (pages S) i n ≡ 64 * j + start j + 1)
-  unfolding placeFor roomy freePlace
+  pub place-some : 0 < n → place ≢ 0 → (j : ℕ) × Chosen S i n j × (start j < 64) × (place ≡ 64 * j + start j + 1)
+  unfolding placeFor roomy freePlace newestAt takenAt firstFree pageCount
   place-some h = go noRoom refl
     where
-      go : (b : Bool) → noRoom ≡ b → pick b (freePlace (pages S)) behind ≢ 0
+      go : (b : Bool) → noRoom ≡ b → pick b lowest behind ≢ 0
           → (j : ℕ) × (pick (not b) (eqb newest (j + 1)) (isFree (pages S) j) ≡ true) × (pick (not b) (takenAt (pages S) j) 0 < 64)
-          × (pick b (freePlace (pages S)) behind ≡ 64 * j + pick (not b) (takenAt (pages S) j) 0 + 1)
+          × (pick b lowest behind ≡ 64 * j + pick (not b) (takenAt (pages S) j) 0 + 1)
       go true q z =
           by-test (ltb (firstFree (pages S)) (pageCount (pages S)))
           (λ e. (firstFree (pages S), first-free (pages S) (ltb-true _ _ e), omega arith, rw e (omega arith)))
@@ -101,36 +107,35 @@ module _ (S : Store) (i n : ℕ) where
           let t = neither _ _ q in
           (newest - 1, eq-eqb newest (newest - 1 + 1) (omega (arith, eqb-false newest 0 (t .0))), omega (arith, leb-false 65 (takenAt (pages S) (newest - 1) + n) (t .1)), refl)
 
-module _ (s : State) (heap : List ℕ) (slot region kind : ℕ) where
-  abbrev S : Store
-  S = store s heap
-
+module _ (S : Store) (slot region kind : ℕ) where
   abbrev entry : ℕ
-  entry = entryOf (s .regions) region
+  entry = entryIn ((regions S) .names) region
 
   abbrev words : ℕ
-  words = sizeOf (s .kinds) kind
-
-  abbrev first : ℕ
-  first = reason (topTests (s .pages) (length heap) (s .frames) slot slot)
+  words = sizeIn ((kinds S) .declared) ((kinds S) .sizes) kind
 
   abbrev second : ℕ
-  second = reason (allocateTests (s .kinds) entry kind (placeFor (s .regions) (s .pages) entry (1 + words)))
+  second = reason (allocateTests ((kinds S) .declared) entry kind (place S entry (1 + words)))
 
-  tests : refusal S (allocate slot region kind) ≡ orElse first second
-  unfolding refusal checks dead isLive size allocateTests
+  tests : refusal S (allocate slot region kind) ≡ orElse (reason (top S slot slot)) second
+  unfolding refusal checks dead isLive entryOf size sizeOf kindCount allocateTests
   tests =
-      one-slot S (dead S region yields 2 ∷ (eqb kind 0 || ltb (kindCount (s .kinds)) kind) yields 12 ∷ (not (roomy S entry (1 + words)) && eqb (pagesOf (s .pages) 0) 0) yields 13 ∷ []) slot
+      one-slot S (dead S region yields 2 ∷ (eqb kind 0 || ltb (kindCount (kinds S)) kind) yields 12 ∷ (not (roomy S entry (1 + words)) && eqb (pagesOf (pages S) 0) 0) yields 13 ∷ []) slot
       ∙ rw (place-none S entry (1 + words))
 
   -- the first tests refuse
-  pub allocate-first : (g : ℕ) → g ≡ first → g ≢ 0 → refusal S (allocate slot region kind) ≡ g
-  allocate-first g p z = tests ∙ else-first first g second p z
+  pub allocate-first : (g : ℕ) → g ≡ reason (top S slot slot) → g ≢ 0 → refusal S (allocate slot region kind) ≡ g
+  allocate-first g p z = tests ∙ else-first (reason (top S slot slot)) g second p z
 
-  -- an object at v, which is on page j
-  made : (j v : ℕ) → start S entry (1 + words) j < 64 → v ≡ 64 * j + start S entry (1 + words) j + 1
-      → store (withObject s slot entry (1 + words) v) (sets heap (v - 1) (kind ∷ replicate words 0)) ≡ allocated S slot entry kind j
-  unfolding withObject oldestWith allocated fillSlot size
+  -- the store with an object of m words at v for the region at entry i: `allocated`, by the object's place
+  abbrev withObject : ℕ → ℕ → ℕ → Store
+  withObject i m v =
+      let T = withHeap S (sets (S .heap) (v - 1) (kind ∷ replicate m 0)) in
+      let U = withPages T (withTaken (pages S) ((v - 1) / 64) (i + 1) ((v - 1) % 64 + (1 + m))) in
+      fillSlot (withRegions U (withPage (regions S) i ((v - 1) / 64 + 1) (oldestWith (oldestAt (regions S) i) v))) slot v
+
+  made : (j v : ℕ) → start S entry (1 + words) j < 64 → v ≡ 64 * j + start S entry (1 + words) j + 1 → withObject entry words v ≡ allocated S slot entry kind j
+  unfolding allocated size sizeOf
   made j v h e =
       let a : v - 1 ≡ 64 * j + start S entry (1 + words) j = omega arith in
       let b : (v - 1) / 64 ≡ j = omega arith in
@@ -138,14 +143,16 @@ module _ (s : State) (heap : List ℕ) (slot region kind : ℕ) where
       rw (b, d, a, e)
 
   -- they do not, and the second decide, on what the code found
-  module _ (e m v : ℕ) (found : e ≡ entry) (sized : m ≡ words) (placed : v ≡ placeFor (s .regions) (s .pages) e (1 + m)) where
-    pub allocate-second : (t g : ℕ) → t ≡ first → t ≡ 0 → g ≡ reason (allocateTests (s .kinds) e kind v) → refusal S (allocate slot region kind) ≡ g
-    allocate-second t g p z q = tests ∙ else-next first t second p z ∙ rw (q, placed, found, sized)
+  module _ (e m q v : ℕ) (found : e ≡ entry) (sized : m ≡ words) (paged : q ≡ getD ((regions S) .newest) e 0) where
+    abbrev Placed : Type 0
+    Placed = let p = pages S in v ≡ placeFor (p .made) (p .owners) (p .taken) q (1 + m)
 
-    pub allocate-effect : (a : Answer) (T : Store) → v ≢ 0 → a ≡ gives [] → T ≡ store (withObject s slot e (1 + m) v) (sets heap (v - 1) (kind ∷ replicate m 0))
-        → Accepted (allocate slot region kind) S a T
-    unfolding Accepted size
-    allocate-effect a T z p q =
-        let f : v ≡ placeFor (s .regions) (s .pages) entry (1 + words) = placed ∙ rw (found, sized) in
+    pub allocate-second : Placed → (t g : ℕ) → t ≡ reason (top S slot slot) → t ≡ 0 → g ≡ reason (allocateTests ((kinds S) .declared) e kind v) → refusal S (allocate slot region kind) ≡ g
+    allocate-second placed t g p z h = tests ∙ else-next (reason (top S slot slot)) t second p z ∙ rw (h, placed, paged, found, sized)
+
+    pub allocate-effect : Placed → (a : Answer) (T : Store) → v ≢ 0 → a ≡ gives [] → T ≡ withObject e m v → Accepted (allocate slot region kind) S a T
+    unfolding Accepted size sizeOf entryOf
+    allocate-effect placed a T z p h =
+        let f : v ≡ place S entry (1 + words) = placed ∙ rw (paged, found, sized) in
         let j = place-some S entry (1 + words) (omega arith) (λ h. z (f ∙ h)) in
-        (p, (j .0, j .1, q ∙ ap₂ (λ x y. store (withObject s slot x (1 + y) v) (sets heap (v - 1) (kind ∷ replicate y 0))) found sized ∙ made (j .0) v (j .2) (f ∙ j .3)))
+        (p, (j .0, j .1, h ∙ ap₂ (λ x y. withObject x y v) found sized ∙ made (j .0) v (j .2) (f ∙ j .3)))

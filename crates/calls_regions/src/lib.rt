@@ -6,14 +6,14 @@ use regions::Regions;
 use state::Done;
 use state::State;
 ghost use mathlib.Core.Path.{_≡_};
-ghost use mathlib.Core.List.{[], _∷_};
+ghost use mathlib.Core.List.{[]};
 ghost use Prim.Native.Nat.{_<_, _≤_};
-ghost use Rattle.model.specs.Model.{declare, newRegion, subregion, allocate, gives};
+ghost use lib.ListN.{getD};
+ghost use Rattle.model.specs.Model.{declare, newRegion, subregion, allocate};
 ghost use Rattle.model.specs.Calls.{reason, makes};
-ghost use Rattle.regions.specs.Regions.{newestAt};
 ghost use Rattle.outcomes.specs.Outcome.{Outcome, MakeOutcome, answerOf, store, blank};
 ghost use Rattle.calls_regions.specs.Tests.{declareTests, moreTests, newTests, subregionTests, allocateTests};
-ghost use Rattle.calls_regions.specs.Places.{freePlace, placeFor, oldestWith, withObject};
+ghost use Rattle.calls_regions.specs.Places.{freePlace, placeFor, oldestWith};
 
 // Whether a heap of n words can be made a store: 64 times 1 to 256.
 fn makes(n: usize) -> bool
@@ -32,8 +32,10 @@ fn makes(n: usize) -> bool
 fn blank(n: u32, r: u8) -> State
     ensures { λ s. ⌜ s ≡ blank n r ⌝ }
 {
-    let names = cells::put64([0; 64], 0, r as u32);
-    let levels = cells::put64_byte([0; 64], 0, r);
+    let mut names = [0; 64];
+    let mut levels = [0; 64];
+    cells::store(&mut names, 0, r as u32);
+    cells::store_byte(&mut levels, 0, r);
     State {
         frames: Frames {
             standing: 0,
@@ -82,16 +84,16 @@ pub fn make(heap: &mut [u32]) -> Done
 }
 
 // 21, 11 and 10, for a heap of n words.
-fn declare_refusal(p: Pages, n: usize, k: Kinds, marks: &[u32]) -> u32
-    ensures { λ r. ⌜ r ≡ reason (declareTests p n k (now (marks .entry))) ⌝ }
+fn declare_refusal(made: u32, n: usize, declared: u32, marks: &[u32]) -> u32
+    ensures { λ r. ⌜ r ≡ reason (declareTests made n declared (now (marks .entry))) ⌝ }
 {
-    if pages::wrong_length(p, n) {
+    if pages::wrong_length(made, n) {
         return 21;
     }
     if kinds::marks_wrong(marks) {
         return 11;
     }
-    if 16 <= k.declared {
+    if 16 <= declared {
         return 10;
     }
     0
@@ -101,142 +103,167 @@ fn declare_refusal(p: Pages, n: usize, k: Kinds, marks: &[u32]) -> u32
 pub fn declare(s: State, heap: &[u32], marks: &[u32]) -> Done
     ensures { λ r. ⌜ Outcome (declare (now (marks .entry))) (store s (now (heap .entry))) (answerOf (r .reply) []) (store (r .state) (now (heap .entry))) ⌝ }
 {
-    let p = s.pages;
-    let k = s.kinds;
-    let g = declare_refusal(p, heap.len(), k, marks);
-    if g != 0 {
-        return checks::refusing(s, g);
-    }
-    let q = kinds::with_kind(k, marks);
     let mut t = s;
-    t.kinds = q;
+    let n = t.kinds.declared;
+    let g = declare_refusal(t.pages.made, heap.len(), n, marks);
+    if g != 0 {
+        return Done {
+            state: t,
+            reply: checks::refused(g),
+        };
+    }
+    let kind = n + 1;
+    kinds::put_size(&mut t.kinds.sizes, n, marks.len() as u8);
+    kinds::put_marks(&mut t.kinds.marks, 16 * n, marks);
+    t.kinds.declared = kind;
     Done {
         state: t,
-        reply: checks::gives(q.declared, 0, 0, 0),
+        reply: checks::gives(kind, 0, 0, 0),
     }
 }
 
 // 4 and 5, for one region more.
-fn more_refusal(r: Regions) -> u32
-    ensures { λ g. ⌜ g ≡ reason (moreTests r) ⌝ }
+fn more_refusal(names: &[u32], given: u32) -> u32
+    ensures { λ g. ⌜ g ≡ reason (moreTests (now (names .entry)) given) ⌝ }
 {
-    if 64 <= regions::live_count(r) {
+    if 64 <= regions::live_count(names) {
         return 4;
     }
-    if 1000000 <= r.given {
+    if 1000000 <= given {
         return 5;
     }
     0
 }
 
 // 21, 4 and 5, for a heap of n words.
-fn new_refusal(p: Pages, n: usize, r: Regions) -> u32
-    ensures { λ g. ⌜ g ≡ reason (newTests p n r) ⌝ }
+fn new_refusal(made: u32, n: usize, names: &[u32], given: u32) -> u32
+    ensures { λ g. ⌜ g ≡ reason (newTests made n (now (names .entry)) given) ⌝ }
 {
-    if pages::wrong_length(p, n) {
+    if pages::wrong_length(made, n) {
         return 21;
     }
-    more_refusal(r)
+    more_refusal(names, given)
 }
 
 // 21, 2, 20, 4 and 5, for a heap of n words and the region above at entry e.
-fn subregion_refusal(p: Pages, n: usize, r: Regions, e: u32) -> u32
-    ensures { λ g. ⌜ g ≡ reason (subregionTests p n r e) ⌝ }
+fn subregion_refusal<'a>(
+    made: u32,
+    n: usize,
+    names: &'a [u32],
+    levels: &'a [u8],
+    given: u32,
+    e: u32,
+) -> u32
+    ensures { λ g. ⌜ g ≡ reason (subregionTests made n (now (names .entry)) (now (levels .entry)) given e) ⌝ }
 {
-    if pages::wrong_length(p, n) {
+    if pages::wrong_length(made, n) {
         return 21;
     }
     if 64 <= e {
         return 2;
     }
-    if 16 <= regions::level_at(r, e) {
+    if 16 <= regions::level_at(levels, e) {
         return 20;
     }
-    more_refusal(r)
-}
-
-// The state with these regions; the answer is the last name given.
-fn named(s: State, r: Regions) -> Done
-    ensures { λ d. ⌜ (answerOf (d .reply) [] ≡ gives (r .given ∷ [])) × (d .state ≡ record { frames = s .frames; kinds = s .kinds; regions = r; pages = s .pages }) ⌝ }
-{
-    let mut t = s;
-    t.regions = r;
-    Done {
-        state: t,
-        reply: checks::gives(r.given, 0, 0, 0),
-    }
+    more_refusal(names, given)
 }
 
 // Document 01's call 3: a region with none above it.
 pub fn new_region(s: State, heap: &[u32]) -> Done
     ensures { λ r. ⌜ Outcome newRegion (store s (now (heap .entry))) (answerOf (r .reply) []) (store (r .state) (now (heap .entry))) ⌝ }
 {
-    let p = s.pages;
-    let r = s.regions;
-    let g = new_refusal(p, heap.len(), r);
+    let mut t = s;
+    let given = t.regions.given;
+    let g = new_refusal(t.pages.made, heap.len(), &t.regions.names, given);
     if g != 0 {
-        return checks::refusing(s, g);
+        return Done {
+            state: t,
+            reply: checks::refused(g),
+        };
     }
-    let i = regions::unused(r);
-    named(s, regions::with_region(r, i, 0, 1))
+    let name = given + 1;
+    let i = regions::unused(&t.regions.names);
+    t.regions.given = name;
+    regions::put_word(&mut t.regions.names, i, name);
+    regions::put_byte(&mut t.regions.parents, i, 0);
+    regions::put_byte(&mut t.regions.levels, i, 1);
+    regions::put_word(&mut t.regions.counts, i, 0);
+    regions::put_half(&mut t.regions.newest, i, 0);
+    regions::put_word(&mut t.regions.oldest, i, 0);
+    Done {
+        state: t,
+        reply: checks::gives(name, 0, 0, 0),
+    }
 }
 
 // Document 01's call 4: a region below the one named `above`.
 pub fn subregion(s: State, heap: &[u32], above: u32) -> Done
     ensures { λ r. ⌜ Outcome (subregion above) (store s (now (heap .entry))) (answerOf (r .reply) []) (store (r .state) (now (heap .entry))) ⌝ }
 {
-    let p = s.pages;
-    let r = s.regions;
-    let e = regions::entry_of(r, above);
-    let g = subregion_refusal(p, heap.len(), r, e);
+    let mut t = s;
+    let given = t.regions.given;
+    let e = regions::entry_of(&t.regions.names, above);
+    let g = subregion_refusal(
+        t.pages.made,
+        heap.len(),
+        &t.regions.names,
+        &t.regions.levels,
+        given,
+        e,
+    );
     if g != 0 {
-        return checks::refusing(s, g);
+        return Done {
+            state: t,
+            reply: checks::refused(g),
+        };
     }
-    let l = regions::level_at(r, e);
-    let i = regions::unused(r);
-    named(s, regions::with_region(r, i, (e + 1) as u8, (l + 1) as u8))
-}
-
-// The newest page of the region at entry e, plus 1; 0 where it has none. That it is a u16 bounds the place of an object on it.
-fn newest(r: Regions, e: u32) -> u16
-    ensures { λ q. ⌜ q ≡ newestAt r e ⌝ }
-{
-    let a = r.newest;
-    let i = e as usize;
-    if i < 64 { a[i] } else { 0 }
+    let name = given + 1;
+    let tag = (e + 1) as u8;
+    let level = (regions::level_at(&t.regions.levels, e) + 1) as u8;
+    let at = regions::unused(&t.regions.names);
+    t.regions.given = name;
+    regions::put_word(&mut t.regions.names, at, name);
+    regions::put_byte(&mut t.regions.parents, at, tag);
+    regions::put_byte(&mut t.regions.levels, at, level);
+    regions::put_word(&mut t.regions.counts, at, 0);
+    regions::put_half(&mut t.regions.newest, at, 0);
+    regions::put_word(&mut t.regions.oldest, at, 0);
+    Done {
+        state: t,
+        reply: checks::gives(name, 0, 0, 0),
+    }
 }
 
 // A pointer to the start of the lowest free page, 0 where none is free.
-fn free_place(p: Pages) -> u32
-    ensures { λ v. ⌜ (v ≡ freePlace p) × (v ≤ 16384) ⌝ }
+fn free_place(made: u32, owners: &[u8]) -> u32
+    ensures { λ v. ⌜ (v ≡ freePlace made (now (owners .entry))) × (v ≤ 16384) ⌝ }
 {
-    let j = pages::find_free(p);
-    if j < pages::page_count(p) {
+    let j = pages::find_free(made, owners);
+    if j < pages::page_count(made) {
         return 64 * j + 1;
     }
     0
 }
 
-// A pointer to the place of the next object of n words, its header too, of the region at entry e; 0 where no page has room.
-// 4194240 is a pointer to the last word of page 65,534, the last that `newest` can name.
-fn place_for(r: Regions, p: Pages, e: u32, n: u32) -> u32
-    requires { ⌜ (0 < n) × (n ≤ 17) ⌝ }
-    ensures { λ v. ⌜ (v ≡ placeFor r p e n) × (v ≤ 4194240) ⌝ }
+// A pointer to the place of the next object of n words, its header too, of the region whose newest page, plus 1, is q; 0 where no page has room.
+// 4194240 is a pointer to the last word of page 65,534, the last that a region's newest page can be.
+fn place_for<'a>(made: u32, owners: &'a [u8], taken: &'a [u8], q: u32, n: u32) -> u32
+    requires { ⌜ (q < 65536) × (0 < n) × (n ≤ 17) ⌝ }
+    ensures { λ v. ⌜ (v ≡ placeFor made (now (owners .entry)) (now (taken .entry)) q n) × (v ≤ 4194240) ⌝ }
 {
-    let q = newest(r, e) as u32;
     if q == 0 {
-        return free_place(p);
+        return free_place(made, owners);
     }
-    let t = pages::taken_at(p, q - 1);
+    let t = pages::taken_at(taken, q - 1);
     if 65 <= t + n {
-        return free_place(p);
+        return free_place(made, owners);
     }
     64 * (q - 1) + t + 1
 }
 
 // 2, 12 and 13, for a region at entry e and an object that would stand at v.
-fn allocate_refusal(k: Kinds, e: u32, kind: u32, v: u32) -> u32
-    ensures { λ g. ⌜ g ≡ reason (allocateTests k e kind v) ⌝ }
+fn allocate_refusal(declared: u32, e: u32, kind: u32, v: u32) -> u32
+    ensures { λ g. ⌜ g ≡ reason (allocateTests declared e kind v) ⌝ }
 {
     if 64 <= e {
         return 2;
@@ -244,7 +271,7 @@ fn allocate_refusal(k: Kinds, e: u32, kind: u32, v: u32) -> u32
     if kind == 0 {
         return 12;
     }
-    if kinds::kind_count(k) < kind {
+    if kinds::kind_count(declared) < kind {
         return 12;
     }
     if v == 0 {
@@ -254,52 +281,52 @@ fn allocate_refusal(k: Kinds, e: u32, kind: u32, v: u32) -> u32
 }
 
 // The oldest object of the region at entry e once v is made.
-fn oldest_with(r: Regions, e: u32, v: u32) -> u32
-    ensures { λ o. ⌜ o ≡ oldestWith r e v ⌝ }
+fn oldest_with(oldest: &[u32], e: u32, v: u32) -> u32
+    ensures { λ o. ⌜ o ≡ oldestWith (getD (now (oldest .entry)) e 0) v ⌝ }
 {
-    let o = regions::oldest_at(r, e);
+    let o = regions::oldest_at(oldest, e);
     if o == 0 { v } else { o }
-}
-
-// An object of n words, its header too, made at v for the region at entry e and put in a slot of the top frame.
-fn with_object(s: State, slot: u32, e: u32, n: u32, v: u32) -> State
-    requires { ⌜ (e < 64) × (n ≤ 17) × (0 < v) × (v ≤ 4194240) ⌝ }
-    ensures { λ t. ⌜ t ≡ withObject s slot e n v ⌝ }
-{
-    let at = v - 1;
-    let j = at / 64;
-    let r = s.regions;
-    let p = s.pages;
-    let q = regions::with_page(r, e, (j + 1) as u16, oldest_with(r, e, v));
-    let o = pages::with_taken(p, j, (e + 1) as u8, (at % 64 + n) as u8);
-    let mut t = checks::with_slot(s, slot, v);
-    t.regions = q;
-    t.pages = o;
-    t
 }
 
 // Document 01's call 8: an object of that kind, made for the region and put in the slot.
 pub fn allocate(s: State, heap: &mut [u32], slot: u32, region: u32, kind: u32) -> Done
     ensures { λ r. ⌜ Outcome (allocate slot region kind) (store s (now (heap .entry))) (answerOf (r .reply) []) (store (r .state) (now (heap .exit))) ⌝ }
 {
-    let f = s.frames;
-    let k = s.kinds;
-    let r = s.regions;
-    let p = s.pages;
-    let t = checks::top_refusal(p, heap.len(), f, slot, slot);
-    if t != 0 {
-        return checks::refusing(s, t);
+    let mut t = s;
+    let f = t.frames.standing;
+    let h = checks::top_refusal(t.pages.made, heap.len(), f, &t.frames.widths, slot, slot);
+    if h != 0 {
+        return Done {
+            state: t,
+            reply: checks::refused(h),
+        };
     }
-    let e = regions::entry_of(r, region);
-    let n = kinds::size_of(k, kind);
-    let v = place_for(r, p, e, 1 + n);
-    let g = allocate_refusal(k, e, kind, v);
+    let e = regions::entry_of(&t.regions.names, region);
+    let n = kinds::size_of(t.kinds.declared, &t.kinds.sizes, kind);
+    let words = 1 + n;
+    let q = regions::newest_at(&t.regions.newest, e);
+    let v = place_for(t.pages.made, &t.pages.owners, &t.pages.taken, q, words);
+    let g = allocate_refusal(t.kinds.declared, e, kind, v);
     if g != 0 {
-        return checks::refusing(s, g);
+        return Done {
+            state: t,
+            reply: checks::refused(g),
+        };
     }
-    cells::lay(heap, v - 1, kind, n);
+    let at = v - 1;
+    let j = at / 64;
+    let tag = (e + 1) as u8;
+    let newest = (j + 1) as u16;
+    let taken = (at % 64 + words) as u8;
+    let o = oldest_with(&t.regions.oldest, e, v);
+    cells::lay(heap, at, kind, n);
+    regions::put_half(&mut t.regions.newest, e, newest);
+    regions::put_word(&mut t.regions.oldest, e, o);
+    pages::put_byte(&mut t.pages.owners, j, tag);
+    pages::put_byte(&mut t.pages.taken, j, taken);
+    frames::put_slot(&mut t.frames.slots, frames::top(f), slot, v);
     Done {
-        state: with_object(s, slot, e, 1 + n, v),
+        state: t,
         reply: checks::gives(0, 0, 0, 0),
     }
 }

@@ -1,57 +1,80 @@
-use mathlib.Core.Path.{ap₂, _∙_}
+use mathlib.Core.Path.{refl, _∙_}
+use Prim.Native.Nat.{ℕ}
 use native.Mathlib.Omega.{arith}
+use lib.ListN.{getD}
+use mir.Syntax.{w16}
+use mir.Val.{Fits}
 use borrow.Author.Needs.{needs}
-use Rattle.outcomes.specs.Outcome.{store}
+use Rattle.frames.specs.Frames.{putSlot, topFrame}
+use Rattle.regions.specs.Regions.{oldestAt, withPage}
+use Rattle.pages.specs.Pages.{withTaken}
+use Rattle.outcomes.specs.Outcome.{fillSlot}
 use Rattle.outcomes.specs.Laws.Steps.{by-refusal, by-effect}
-use Rattle.calls_regions.proofs.Laws.{size-small, object-passed, allocate-first, allocate-second, allocate-effect}
+use Rattle.calls_regions.proofs.Laws.{by-parts, size-small, object-passed, allocate-first, allocate-second, allocate-effect}
 use Rattle.calls_regions.proofs.allocate.Statement.{statement}
 use Rattle.calls_regions.proofs.allocate.Tie as tie
 
 returns : tie.Need-returns
-returns c =
-    by-refusal _ _ _ _ _ (allocate-first _ _ _ _ _ _ (c .before .before .top-refusal .ensures) (c .before .if1 .taken)) (c .before .if1 .taken) (c .refusing .ensures .0)
-    (rw (c .refusing .ensures .1))
+returns c = by-refusal _ _ _ _ _ (allocate-first _ _ _ _ _ (c .before .before .top-refusal .ensures) (c .before .if1 .taken)) (c .before .if1 .taken) (c .refused .ensures) refl
 
-add-place-for : tie.Need-add-place-for
-add-place-for c = omega (arith, size-small _ _ _ (c .size-of .ensures))
+words-fit : tie.Need-add-words
+words-fit c = omega (arith, size-small _ _ _ _ (c .size-of .ensures))
+
+newest-fits : (s : tie.Start) (i : ℕ) → Fits w16 (getD (s .args .s .regions .newest) i 0)
+newest-fits s i = search needs
 
 place-for-requires : tie.Need-place-for-requires
-place-for-requires c κs = omega (arith, size-small _ _ _ (c .size-of .ensures))
+place-for-requires c κs =
+    let q = c .before .before .before .before .before in
+    let n = q .before .before .before .before in
+    let e = n .before .before .before .before in
+    let s = e .before .before .before .before .before .before .before .before .before .before in
+    (rw (q .newest-at .ensures) (newest-fits s (e .entry-of .result) .fits), omega arith, omega (arith, size-small _ _ _ _ (n .size-of .ensures)))
 
 returns-2 : tie.Need-returns-2
 returns-2 c =
     let o = c .before .before in
-    let p = o .before in
-    let t = p .before .before .before in
+    let v = o .before in
+    let q = v .before .before .before .before .before .before in
+    let n = q .before .before .before .before in
+    let e = n .before .before .before .before in
+    let t = e .before .before .before .before in
     by-refusal _ _ _ _ _
-    (allocate-second _ _ _ _ _ _ _ _ (p .before .before .entry-of .ensures) (p .before .size-of .ensures) (p .place-for .ensures .0) _ _ (t .before .top-refusal .ensures) (t .if1 .left) (o .allocate-refusal .ensures))
-    (c .before .if2 .taken) (c .refusing2 .ensures .0) (rw (c .refusing2 .ensures .1))
+    (allocate-second _ _ _ _ _ _ _ _ (e .entry-of .ensures) (n .size-of .ensures) (q .newest-at .ensures) (v .place-for .ensures .0) _ _ (t .before .top-refusal .ensures) (t .if1 .left) (o .allocate-refusal .ensures))
+    (c .before .if2 .taken) (c .refused2 .ensures) refl
 
-sub-lay : tie.Need-sub-lay
-sub-lay c = omega (arith, object-passed _ _ _ _ _ (c .before .before .allocate-refusal .ensures) (c .before .if2 .left) .1)
+sub-at : tie.Need-sub-at
+sub-at c = omega (arith, object-passed _ _ _ _ _ (c .before .allocate-refusal .ensures) (c .if2 .left) .1)
 
-add-with-object : tie.Need-add-with-object
-add-with-object c = omega (arith, size-small _ _ _ (c .before .before .before .before .before .before .before .size-of .ensures))
+tag-fits : tie.Need-cast-tag
+tag-fits c = omega (arith, object-passed _ _ _ _ _ (c .before .allocate-refusal .ensures) (c .if2 .left) .0)
 
-with-object-requires : tie.Need-with-object-requires
-with-object-requires c κs =
-    let o = c .before .before .before .before .before in
-    let q = object-passed _ _ _ _ _ (o .allocate-refusal .ensures) (c .before .before .before .before .if2 .left) in
-    (q .0, omega (arith, size-small _ _ _ (o .before .before .size-of .ensures)), omega (arith, q .1), o .before .place-for .ensures .1)
+taken-fits : tie.Need-cast-taken
+taken-fits c =
+    let q = c .before .before .before .before .before .before .before .before in
+    omega (arith, size-small _ _ _ _ (q .before .before .before .before .size-of .ensures))
 
 returns-3 : tie.Need-returns-3
+unfolding fillSlot putSlot topFrame withPage withTaken oldestAt
 returns-3 c =
-    let l = c .before .before .before .before in
-    let o = l .before .before .before in
-    let p = o .before in
-    let t = p .before .before .before in
-    let e = p .before .before .entry-of .ensures in
-    let n = p .before .size-of .ensures in
-    let v = p .place-for .ensures .0 in
-    let z = l .before .before .if2 .left in
-    by-effect _ _ _ _ (allocate-second _ _ _ _ _ _ _ _ e n v _ _ (t .before .top-refusal .ensures) (t .if1 .left) (o .allocate-refusal .ensures) ∙ z)
-    (allocate-effect _ _ _ _ _ _ _ _ e n v _ _ (object-passed _ _ _ _ _ (o .allocate-refusal .ensures) z .1) (c .gives .ensures)
-    (ap₂ store (c .before .with-object .ensures) (l .lay .ensures)))
+    let f = c .before in
+    let w = f .before .before .before in
+    let u = w .before .before in
+    let l = u .before .before in
+    let h = l .before .before in
+    let y = h .before .before .before .before in
+    let d = y .before .before in
+    let i = d .before .before .before .before in
+    let o = i .before in
+    let v = o .before in
+    let q = v .before .before .before .before .before .before in
+    let n = q .before .before .before .before in
+    let e = n .before .before .before .before in
+    let t = e .before .before .before .before in
+    by-effect _ _ _ _ (allocate-second _ _ _ _ _ _ _ _ (e .entry-of .ensures) (n .size-of .ensures) (q .newest-at .ensures) (v .place-for .ensures .0) _ _ (t .before .top-refusal .ensures) (t .if1 .left) (o .allocate-refusal .ensures) ∙ i .if2 .left)
+    (allocate-effect _ _ _ _ _ _ _ _ (e .entry-of .ensures) (n .size-of .ensures) (q .newest-at .ensures) (v .place-for .ensures .0) _ _ (object-passed _ _ _ _ _ (o .allocate-refusal .ensures) (i .if2 .left) .1) (c .gives .ensures)
+    (by-parts _ _ (rw (f .put-slot .ensures, f .before .top .ensures)) refl (rw (l .put-word .ensures, h .put-half .ensures, d .oldest-with .ensures))
+    (rw (w .put-byte2 .ensures, u .put-byte .ensures)) (y .lay .ensures)))
 
 pub allocate-spec : {M : Type 1} → statement M
-allocate-spec = tie.close (tie.spec (λ c κs. search needs) (λ c κs. search needs) returns (λ c κs. search needs) (λ c κs. search needs) add-place-for place-for-requires (λ c κs. search needs) (λ c κs. search needs) returns-2 sub-lay (λ c κs. search needs) add-with-object with-object-requires (λ c κs. search needs) (λ c. search needs) returns-3)
+allocate-spec = tie.close (tie.spec (λ c κs. search needs) (λ c κs. search needs) returns (λ c κs. search needs) (λ c κs. search needs) words-fit (λ c κs. search needs) place-for-requires (λ c κs. search needs) (λ c κs. search needs) returns-2 sub-at (λ c. omega (arith, tag-fits c .fits)) tag-fits (λ c. search needs) (λ c. search needs) (λ c. omega (arith, taken-fits c .fits)) taken-fits (λ c κs. search needs) (λ c κs. search needs) (λ c κs. search needs) (λ c κs. search needs) (λ c κs. search needs) (λ c κs. search needs) (λ c κs. search needs) (λ c κs. search needs) (λ c κs. search needs) (λ c. search needs) returns-3)

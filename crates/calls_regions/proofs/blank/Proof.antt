@@ -5,7 +5,7 @@ use Rattle.calls_regions.proofs.blank.Tie as tie
 
 returns : tie.Need-returns
 unfolding blank
-returns c = rw (c .before .put64 .ensures, c .put64-byte .ensures)
+returns c = rw (c .before .before .before .before .store .ensures, c .before .store-byte .ensures)
 
 pub blank-spec : {M : Type 1} → statement M
-blank-spec = tie.close (tie.spec (λ c κs. search needs) (λ c κs. search needs) returns)
+blank-spec = tie.close (tie.spec (λ c. search needs) (λ c κs. search needs) (λ c. search needs) (λ c κs. search needs) returns)

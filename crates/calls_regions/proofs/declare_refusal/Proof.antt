@@ -14,11 +14,11 @@ returns-2 c = rw (← c .before .before .before .wrong-length .ensures, ← c .b
 
 returns-3 : tie.Need-returns-3
 unfolding declareTests
-returns-3 c = rw (← c .before .before .before .before .before .wrong-length .ensures, ← c .before .before .before .marks-wrong .ensures) (simp (c .before .before .before .before .if1 .left, c .before .before .if2 .left, le-leb _ _ (c .if3 .taken)))
+returns-3 c = rw (← c .before .before .before .before .wrong-length .ensures, ← c .before .before .marks-wrong .ensures) (simp (c .before .before .before .if1 .left, c .before .if2 .left, le-leb _ _ (c .if3 .taken)))
 
 returns-4 : tie.Need-returns-4
 unfolding declareTests
-returns-4 c = rw (← c .before .before .before .before .before .wrong-length .ensures, ← c .before .before .before .marks-wrong .ensures) (simp (c .before .before .before .before .if1 .left, c .before .before .if2 .left, lt-leb _ _ (c .if3 .left)))
+returns-4 c = rw (← c .before .before .before .before .wrong-length .ensures, ← c .before .before .marks-wrong .ensures) (simp (c .before .before .before .if1 .left, c .before .if2 .left, lt-leb _ _ (c .if3 .left)))
 
 pub declare-refusal-spec : {M : Type 1} → statement M
 declare-refusal-spec = tie.close (tie.spec (λ c κs. search needs) returns (λ c κs. search needs) returns-2 returns-3 returns-4)

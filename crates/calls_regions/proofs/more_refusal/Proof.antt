@@ -10,11 +10,11 @@ returns c = rw (← c .before .live-count .ensures) (simp (le-leb _ _ (c .if1 .t
 
 returns-2 : tie.Need-returns-2
 unfolding moreTests
-returns-2 c = rw (← c .before .before .before .live-count .ensures) (simp (lt-leb _ _ (c .before .before .if1 .left), le-leb _ _ (c .if2 .taken)))
+returns-2 c = rw (← c .before .before .live-count .ensures) (simp (lt-leb _ _ (c .before .if1 .left), le-leb _ _ (c .if2 .taken)))
 
 returns-3 : tie.Need-returns-3
 unfolding moreTests
-returns-3 c = rw (← c .before .before .before .live-count .ensures) (simp (lt-leb _ _ (c .before .before .if1 .left), lt-leb _ _ (c .if2 .left)))
+returns-3 c = rw (← c .before .before .live-count .ensures) (simp (lt-leb _ _ (c .before .if1 .left), lt-leb _ _ (c .if2 .left)))
 
 pub more-refusal-spec : {M : Type 1} → statement M
 more-refusal-spec = tie.close (tie.spec (λ c κs. search needs) returns returns-2 returns-3)

@@ -1,33 +1,45 @@
 use mathlib.Core.Path.{_≡_, refl, sym, _∙_}
-use mathlib.Core.List.{List}
 use Prim.Native.Nat.{ℕ}
+use native.Mathlib.Omega.{arith}
 use lib.ListN.{length}
 use borrow.Author.Needs.{needs}
 use Rattle.model.specs.Model.{newRegion}
-use Rattle.regions.specs.Regions.{withRegion}
-use Rattle.outcomes.specs.Outcome.{store, refusal, checks, badLength, full, namesOut, Accepted}
 use Rattle.model.specs.Calls.{reason}
-use Rattle.state.specs.declared.State.{State}
+use Rattle.regions.specs.Regions.{liveCount, unused, withRegion}
+use Rattle.pages.specs.Pages.{wrongLength}
+use Rattle.outcomes.specs.Store.{Store, regions, pages}
+use Rattle.outcomes.specs.Outcome.{refusal, checks, badLength, full, namesOut, Accepted}
 use Rattle.outcomes.specs.Laws.Steps.{by-refusal, by-effect}
 use Rattle.calls_regions.specs.Tests.{newTests, moreTests}
 use Rattle.calls_regions.proofs.Laws.{new-passed}
 use Rattle.calls_regions.proofs.new_region.Statement.{statement}
 use Rattle.calls_regions.proofs.new_region.Tie as tie
 
-tests : (s : State) (heap : List ℕ) → refusal (store s heap) newRegion ≡ reason (newTests (s .pages) (length heap) (s .regions))
-unfolding refusal checks badLength full namesOut newTests moreTests
-tests s heap = refl
+tests : (S : Store) → refusal S newRegion ≡ reason (newTests ((pages S) .made) (length (S .heap)) ((regions S) .names) ((regions S) .given))
+unfolding refusal checks badLength wrongLength full liveCount namesOut newTests moreTests
+tests S = refl
 
 returns : tie.Need-returns
-returns c = by-refusal _ _ _ _ _ (tests _ _ ∙ sym (c .before .before .new-refusal .ensures)) (c .before .if1 .taken) (c .refusing .ensures .0) (rw (c .refusing .ensures .1))
+returns c = by-refusal _ _ _ _ _ (tests _ ∙ sym (c .before .before .new-refusal .ensures)) (c .before .if1 .taken) (c .refused .ensures) refl
+
+-- where 5 is not answered there is a next name
+name-fits : tie.Need-add-name
+name-fits c = omega (arith, new-passed _ _ _ _ _ (c .before .new-refusal .ensures) (c .if1 .left))
 
 returns-2 : tie.Need-returns-2
-unfolding Accepted withRegion
+unfolding Accepted withRegion unused
 returns-2 c =
-    let t = c .before .before .before in
+    let o = c .before in
+    let n = o .before .before in
+    let k = n .before .before in
+    let l = k .before .before in
+    let p = l .before .before in
+    let a = p .before .before in
+    let i = a .before .before .before in
+    let t = i .before .before .before .before in
     let g = t .before .new-refusal .ensures in
-    let w = c .before .with-region .ensures (new-passed _ _ _ _ g (t .if1 .left)) in
-    by-effect _ _ _ _ (tests _ _ ∙ sym g ∙ t .if1 .left) (c .named .ensures .0 ∙ rw w, rw (c .named .ensures .1, w, c .before .before .unused .ensures))
+    by-effect _ _ _ _ (tests _ ∙ sym g ∙ t .if1 .left)
+    (c .gives .ensures, rw (o .put-word3 .ensures, n .put-half .ensures, k .put-word2 .ensures, l .put-byte2 .ensures, p .put-byte .ensures, a .put-word .ensures, i .unused .ensures))
 
 pub new-region-spec : {M : Type 1} → statement M
-new-region-spec = tie.close (tie.spec (λ c κs. search needs) (λ c κs. search needs) returns (λ c κs. search needs) (λ c κs. search needs) (λ c κs. search needs) returns-2)
+new-region-spec = tie.close (tie.spec (λ c κs. search needs) (λ c κs. search needs) returns name-fits (λ c κs. search needs) (λ c κs. search needs) (λ c κs. search needs) (λ c κs. search needs) (λ c κs. search needs) (λ c κs. search needs) (λ c κs. search needs) (λ c κs. search needs) returns-2)

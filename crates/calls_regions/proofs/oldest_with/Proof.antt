@@ -1,15 +1,12 @@
 use borrow.Author.Needs.{needs}
 use borrow.Author.Tests.{eq-eqb, ne-eqb}
-use Rattle.calls_regions.specs.Places.{oldestWith}
 use Rattle.calls_regions.proofs.oldest_with.Statement.{statement}
 use Rattle.calls_regions.proofs.oldest_with.Tie as tie
 
 returns : tie.Need-returns
-unfolding oldestWith
 returns c = rw (← c .before .oldest-at .ensures) (simp (eq-eqb _ _ (c .if1 .taken)))
 
 returns-2 : tie.Need-returns-2
-unfolding oldestWith
 returns-2 c = rw (← c .before .oldest-at .ensures) (simp (ne-eqb _ _ (c .if1 .left)))
 
 pub oldest-with-spec : {M : Type 1} → statement M

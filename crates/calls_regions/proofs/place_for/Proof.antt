@@ -1,43 +1,28 @@
 use native.Mathlib.Omega.{arith}
 use borrow.Author.Needs.{needs}
 use borrow.Author.Tests.{eq-eqb, le-leb, lt-leb, ne-eqb}
-use Rattle.pages.specs.Pages.{takenAt}
 use Rattle.calls_regions.specs.Places.{placeFor}
 use Rattle.calls_regions.proofs.place_for.Statement.{statement}
 use Rattle.calls_regions.proofs.place_for.Tie as tie
 
 returns : tie.Need-returns
 unfolding placeFor
-returns c =
-    (rw (← c .before .before .newest .ensures, ← c .free-place .ensures .0) (simp (eq-eqb _ _ (c .before .if1 .taken))), omega (arith, c .free-place .ensures .1))
-
-add-if2 : tie.Need-add-if2
-unfolding takenAt
-add-if2 c = omega (arith, c .taken-at .ensures)
+returns c = (rw (← c .free-place .ensures .0) (simp (eq-eqb _ _ (c .before .if1 .taken))), omega (arith, c .free-place .ensures .1))
 
 returns-2 : tie.Need-returns-2
 unfolding placeFor
 returns-2 c =
     let t = c .before .before in (
-      rw (← t .before .before .newest .ensures, ← t .taken-at .ensures, ← c .free-place2 .ensures .0) (simp (ne-eqb _ _ (t .before .if1 .left), le-leb _ _ (c .before .if2 .taken))),
+      rw (← t .taken-at .ensures, ← c .free-place2 .ensures .0) (simp (ne-eqb _ _ (t .before .if1 .left), le-leb _ _ (c .before .if2 .taken))),
       omega (arith, c .free-place2 .ensures .1),
     )
-
-mul-result : tie.Need-mul-result
-mul-result c = omega (arith, c .before .before .before .newest .ok)
-
-add-result : tie.Need-add-result
-add-result c = omega (arith, c .before .before .before .newest .ok)
-
-add-result-2 : tie.Need-add-result-2
-add-result-2 c = omega (arith, c .before .before .before .newest .ok)
 
 returns-3 : tie.Need-returns-3
 unfolding placeFor
 returns-3 c = (
-  rw (← c .before .before .before .newest .ensures, ← c .before .taken-at .ensures) (simp (ne-eqb _ _ (c .before .before .if1 .left), lt-leb _ _ (c .if2 .left))),
-  omega (arith, c .before .before .before .newest .ok),
+  rw (← c .before .taken-at .ensures) (simp (ne-eqb _ _ (c .before .before .if1 .left), lt-leb _ _ (c .if2 .left))),
+  omega arith,
 )
 
 pub place-for-spec : {M : Type 1} → statement M
-place-for-spec = tie.close (tie.spec (λ c κs. search needs) (λ c. search needs) (λ c κs. search needs) returns (λ c. search needs) (λ c κs. search needs) add-if2 (λ c κs. search needs) returns-2 (λ c. search needs) mul-result add-result add-result-2 returns-3)
+place-for-spec = tie.close (tie.spec (λ c κs. search needs) returns (λ c. search needs) (λ c κs. search needs) (λ c. search needs) (λ c κs. search needs) returns-2 (λ c. search needs) (λ c. search needs) (λ c. search needs) (λ c. search needs) returns-3)

@@ -1,49 +1,58 @@
-use mathlib.Core.Path.{_≡_, sym, _∙_}
-use mathlib.Core.List.{List}
+use mathlib.Core.Path.{_≡_, refl, sym, _∙_}
 use Prim.Native.Nat.{ℕ}
+use native.Mathlib.Omega.{arith}
 use lib.ListN.{length}
 use borrow.Author.Needs.{needs}
-use native.Mathlib.Omega.{arith}
 use Rattle.model.specs.Model.{subregion}
-use Rattle.regions.specs.Regions.{entryOf, tagOf, isLive, withRegion}
-use Rattle.outcomes.specs.Outcome.{store, refusal, checks, badLength, dead, full, namesOut, Accepted}
 use Rattle.model.specs.Calls.{reason}
-use Rattle.state.specs.declared.State.{State}
+use Rattle.regions.specs.Regions.{entryIn, entryOf, tagOf, isLive, levelAt, liveCount, unused, withRegion}
+use Rattle.pages.specs.Pages.{wrongLength}
+use Rattle.outcomes.specs.Store.{Store, regions, pages}
+use Rattle.outcomes.specs.Outcome.{refusal, checks, badLength, dead, full, namesOut, Accepted}
 use Rattle.outcomes.specs.Laws.Steps.{by-refusal, by-effect}
 use Rattle.calls_regions.specs.Tests.{subregionTests, moreTests}
 use Rattle.calls_regions.proofs.Laws.{subregion-passed}
 use Rattle.calls_regions.proofs.subregion.Statement.{statement}
 use Rattle.calls_regions.proofs.subregion.Tie as tie
 
-tests : (s : State) (heap : List ℕ) (r e : ℕ) → e ≡ entryOf (s .regions) r → refusal (store s heap) (subregion r) ≡ reason (subregionTests (s .pages) (length heap) (s .regions) e)
-unfolding refusal checks badLength dead isLive full namesOut subregionTests moreTests
-tests s heap r e q = rw q
+tests : (S : Store) (r e : ℕ) → e ≡ entryIn ((regions S) .names) r
+    → refusal S (subregion r) ≡ reason (subregionTests ((pages S) .made) (length (S .heap)) ((regions S) .names) ((regions S) .levels) ((regions S) .given) e)
+unfolding refusal checks badLength wrongLength dead isLive entryOf levelAt full liveCount namesOut subregionTests moreTests
+tests S r e q = rw q
 
 returns : tie.Need-returns
 returns c =
     let t = c .before .before in
-    by-refusal _ _ _ _ _ (tests _ _ _ _ (t .before .entry-of .ensures) ∙ sym (t .subregion-refusal .ensures)) (c .before .if1 .taken) (c .refusing .ensures .0) (rw (c .refusing .ensures .1))
+    by-refusal _ _ _ _ _ (tests _ _ _ (t .before .before .before .before .before .before .entry-of .ensures) ∙ sym (t .subregion-refusal .ensures)) (c .before .if1 .taken) (c .refused .ensures) refl
 
--- the entry and the level fit their bytes, with 1 more
-entry-fits : tie.Need-cast-with-region
-entry-fits c =
-    let t = c .before .before in
-    omega (arith, subregion-passed _ _ _ _ _ (t .before .subregion-refusal .ensures) (t .if1 .left) .0)
+-- where the tests passed there is a next name, and the tag and the level fit their bytes
+name-fits : tie.Need-add-name
+name-fits c = omega (arith, subregion-passed _ _ _ _ _ _ _ (c .before .subregion-refusal .ensures) (c .if1 .left) .2)
 
-level-fits : tie.Need-cast-with-region-2
+tag-fits : tie.Need-cast-tag
+tag-fits c = omega (arith, subregion-passed _ _ _ _ _ _ _ (c .before .subregion-refusal .ensures) (c .if1 .left) .0)
+
+level-fits : tie.Need-cast-level
 level-fits c =
-    let t = c .before .before in
-    omega (arith, c .before .level-at .ensures, subregion-passed _ _ _ _ _ (t .before .subregion-refusal .ensures) (t .if1 .left) .1)
+    let t = c .before .before .before .before in
+    omega (arith, c .level-at .ensures, subregion-passed _ _ _ _ _ _ _ (t .before .subregion-refusal .ensures) (t .if1 .left) .1)
 
 returns-2 : tie.Need-returns-2
-unfolding Accepted tagOf withRegion
+unfolding Accepted tagOf entryOf levelAt withRegion unused
 returns-2 c =
-    let t = c .before .before .before .before in
+    let o = c .before in
+    let n = o .before .before in
+    let k = n .before .before in
+    let l = k .before .before in
+    let p = l .before .before in
+    let a = p .before .before in
+    let i = a .before .before .before in
+    let v = i .before .before .before .before in
+    let t = v .before .before .before .before in
     let g = t .before .subregion-refusal .ensures in
-    let e = t .before .before .entry-of .ensures in
-    let w = c .before .with-region .ensures (subregion-passed _ _ _ _ _ g (t .if1 .left) .2) in
-    by-effect _ _ _ _ (tests _ _ _ _ e ∙ sym g ∙ t .if1 .left)
-    (c .named .ensures .0 ∙ rw w, rw (c .named .ensures .1, w, c .before .before .unused .ensures, c .before .before .before .level-at .ensures, e))
+    let e = t .before .before .before .before .before .before .before .entry-of .ensures in
+    by-effect _ _ _ _ (tests _ _ _ e ∙ sym g ∙ t .if1 .left)
+    (c .gives .ensures, rw (o .put-word3 .ensures, n .put-half .ensures, k .put-word2 .ensures, l .put-byte2 .ensures, p .put-byte .ensures, a .put-word .ensures, i .unused .ensures, v .level-at .ensures, e))
 
 pub subregion-spec : {M : Type 1} → statement M
-subregion-spec = tie.close (tie.spec (λ c κs. search needs) (λ c κs. search needs) (λ c κs. search needs) returns (λ c κs. search needs) (λ c κs. search needs) (λ c. omega (arith, entry-fits c .fits)) entry-fits (λ c. omega (arith, level-fits c .fits)) level-fits (λ c κs. search needs) (λ c κs. search needs) returns-2)
+subregion-spec = tie.close (tie.spec (λ c κs. search needs) (λ c κs. search needs) (λ c κs. search needs) returns name-fits (λ c. omega (arith, tag-fits c .fits)) tag-fits (λ c κs. search needs) (λ c. omega (arith, level-fits c .fits)) level-fits (λ c κs. search needs) (λ c κs. search needs) (λ c κs. search needs) (λ c κs. search needs) (λ c κs. search needs) (λ c κs. search needs) (λ c κs. search needs) (λ c κs. search needs) returns-2)
