@@ -7,7 +7,7 @@ use Prim.Native.Nat.{ℕ, _+_}
 use lib.ListN.{length, getD}
 use Rattle.model.specs.Model.{delete}
 use Rattle.model.specs.Calls.{reason}
-use Rattle.frames.specs.Frames.{raised}
+use Rattle.frames.specs.Frames.{topIn, topFrame, raised}
 use Rattle.regions.specs.Regions.{entryIn, entryOf, tagOf, subregionsIn, subregionsOf, countAt, withoutRegion, withCounts}
 use Rattle.regions.specs.Laws.Counts.{Counts}
 use Rattle.regions.specs.Laws.Steps.{enterings, leavings}
@@ -35,9 +35,17 @@ module _ (S : Store) (r : ℕ) where
   unfolding refusal checks deleteTests ledInto entryOf tagOf subregionsOf countAt
   delete-refused = one-region S tests r
 
-  -- the counts cs and the owners os put back, for a region with entry e
-  pub delete-leaves : (e : ℕ) (os cs : List ℕ) → e ≡ entry → Counts ((regions S) .counts) → os ≡ freed (pages S) (e + 1) .owners
+  -- what is left of a region with entry e: m raised, the owners os and the counts cs put back, the entry given up
+  pub delete-leaves : (e m : ℕ) (os cs : List ℕ) → e ≡ entry → m ≡ topIn ((frames S) .standing) → Counts ((regions S) .counts) → os ≡ freed (pages S) (e + 1) .owners
       → let f = frames S in cs ≡ enterings (leavings ((regions S) .counts) (outOf ((pages S) .owners) (e + 1) (freeWordsOf (kinds S) (S .heap) (pages S) (e + 1)))) (newlyIn (f .standing) (f .counted) (f .widths) (f .slots) ((pages S) .owners))
-      → store (record { frames = raised (frames S); kinds = kinds S; regions = withoutRegion (withCounts (regions S) cs) e; pages = pagesWith ((pages S) .made) os ((pages S) .taken) }) (S .heap) ≡ deleted S r
-  unfolding deleted recounted outgoing newlyCounted entryOf tagOf freed
-  delete-leaves e os cs q fits eo ec = rw (eo, ec, enter-leave-recount (regions S) fits, ← q)
+      → store
+      (record {
+        frames = record { standing = f .standing; counted = m; widths = f .widths; slots = f .slots };
+        kinds = kinds S;
+        regions = withoutRegion (withCounts (regions S) cs) e;
+        pages = pagesWith ((pages S) .made) os ((pages S) .taken);
+      })
+      (S .heap)
+      ≡ deleted S r
+  unfolding deleted recounted outgoing newlyCounted entryOf tagOf freed raised topFrame
+  delete-leaves e m os cs q em fits eo ec = rw (em, eo, ec, enter-leave-recount (regions S) fits, ← q)

@@ -2,7 +2,6 @@ use mathlib.Core.Path.{_≡_, refl, sym, _∙_}
 use native.Mathlib.Omega.{arith}
 use borrow.Author.Needs.{needs}
 use Rattle.model.specs.Model.{delete}
-use Rattle.frames.specs.Frames.{topFrame, raised}
 use Rattle.regions.specs.Regions.{entryOf, tagOf, withCounts, withoutRegion}
 use Rattle.pages.specs.Pages.{pagesOf}
 use Rattle.outcomes.specs.Outcome.{store, refusal, Accepted}
@@ -27,7 +26,7 @@ returns : tie.Need-returns
 returns c = by-refusal _ _ _ _ _ (refused-by (c .before .before)) (c .before .if1 .taken) (c .refused .ensures) refl
 
 returns-2 : tie.Need-returns-2
-unfolding Accepted tagOf entryOf pagesOf raised topFrame withCounts withoutRegion
+unfolding Accepted tagOf entryOf pagesOf withCounts withoutRegion
 returns-2 c =
     let t = c .before .before in
     let w = t .before in
@@ -39,7 +38,7 @@ returns-2 c =
     let h = g .give-pages .ensures in
     by-effect _ _ _ _ (refused-by (i .before) ∙ i .if1 .left) (
       c .gives .ensures ∙ rw (h .0, e .entry-of .ensures),
-      rw (w .put-word .ensures, t .top .ensures) (delete-leaves _ _ _ _ _ (e .entry-of .ensures) (z .counts-shaped .ensures) (h .1) (f .enter-frames .ensures ∙ rw (h .2))),
+      rw (w .put-word .ensures) (delete-leaves _ _ _ _ _ _ (e .entry-of .ensures) (t .top .ensures) (z .counts-shaped .ensures) (h .1) (f .enter-frames .ensures ∙ rw (h .2))),
     )
 
 pub delete-spec : {M : Type 1} → statement M

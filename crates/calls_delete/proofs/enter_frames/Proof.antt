@@ -24,7 +24,10 @@ abbrev μ-loop : tie.MeasureT-loop
 
 loop-holds : tie.Need-loop-holds Inv-loop μ-loop
 unfolding newlyIn
-loop-holds c = (rw (← c .before .frame-count .ensures) (c .less .ensures), refl, refl)
+loop-holds c =
+    let a = c .before .before .before .before .before .before .args in
+    let far : c .less .result ≡ frameCountIn (a .standing) - 1 = c .less .ensures ∙ ap (λ n. n - 1) (c .before .frame-count .ensures) in
+    (far, refl, refl)
 
 loop-again : tie.Need-loop-again Inv-loop μ-loop
 loop-again c =
