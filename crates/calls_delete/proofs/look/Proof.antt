@@ -7,35 +7,44 @@ use lib.Dec.{eqb}
 use borrow.Author.Count.{below-none, below-more}
 use borrow.Author.Needs.{needs}
 use borrow.Author.Tests.{eq-eqb, ne-eqb}
-use Rattle.lists.specs.Lists.{any, from}
-use Rattle.lists.specs.Laws.UpTo.{any-one, none-any}
-use Rattle.frames.specs.declared.Frames.{Frames}
-use Rattle.frames.specs.Frames.{frameCount, widthAt, slotAt}
+use Rattle.lists.specs.Lists.{any, from, upTo, among}
+use Rattle.lists.specs.Laws.Finds.{any-map}
+use Rattle.lists.specs.Laws.UpTo.{any-one, none-any, from-next, from-end}
+use Rattle.frames.specs.Frames.{frameCountIn, widthIn, slotIn}
 use Rattle.pages.specs.Pages.{ownerIn}
-use Rattle.calls_delete.specs.Delete.{leads, looked}
-use Rattle.lists.specs.Laws.UpTo.{from-next, from-end}
+use Rattle.outcomes.specs.Store.{targetsIn, ledIn}
 use Rattle.calls_delete.proofs.look.Statement.{statement}
 use Rattle.calls_delete.proofs.look.Tie as tie
 
-abbrev into : Frames → List ℕ → ℕ → ℕ → ℕ → Bool
-into f owners tag i k = eqb (ownerIn owners (slotAt f i k)) tag
+module _ (widths slots owners : List ℕ) (tag i : ℕ) where
+  abbrev into : ℕ → Bool
+  into k = eqb (ownerIn owners (slotIn slots i k)) tag
+
+  abbrev leads : Bool
+  leads = among tag (targetsIn widths slots owners i)
+
+  -- a frame leads there exactly if a slot of it does
+  slot-by-slot : leads ≡ any into (upTo (widthIn widths i))
+  unfolding targetsIn
+  slot-by-slot = any-map (λ t. eqb t tag) (λ s. ownerIn owners (slotIn slots i s)) (upTo (widthIn widths i))
 
 -- no slot passed of the frame leads there
 abbrev Inv-loop : tie.InvT-loop
-Inv-loop f owners tag n found₀ i w k₀ found k = (found ≡ false) × (w ≡ widthAt f i) × (k ≤ w) × ((j : ℕ) → j < k → into f owners tag i j ≡ false)
+Inv-loop standing counted widths slots owners tag n found₀ i w k₀ found k = (found ≡ false) × (w ≡ widthIn widths i) × (k ≤ w) × ((j : ℕ) → j < k → into widths slots owners tag i j ≡ false)
 
 abbrev μ-loop : tie.MeasureT-loop
-μ-loop f owners tag n found₀ i w k₀ found k = w - k
+μ-loop standing counted widths slots owners tag n found₀ i w k₀ found k = w - k
 
 -- the frames left lead there exactly if all uncounted frames do
 abbrev Inv-look : tie.InvT-look
-Inv-look f owners tag n found₀ i₀ found i = (found ≡ false) × (n ≡ frameCount f) × (any (leads f owners tag) (from i (frameCount f - i)) ≡ looked f owners tag)
+Inv-look standing counted widths slots owners tag n found₀ i₀ found i =
+    (found ≡ false) × (n ≡ frameCountIn standing) × (any (leads widths slots owners tag) (from i (frameCountIn standing - i)) ≡ ledIn standing counted widths slots owners tag)
 
 abbrev μ-look : tie.MeasureT-look
-μ-look f owners tag n found₀ i₀ found i = n - i
+μ-look standing counted widths slots owners tag n found₀ i₀ found i = n - i
 
 look-holds : tie.Need-look-holds Inv-loop μ-loop Inv-look μ-look
-unfolding looked
+unfolding ledIn
 look-holds c = (refl, search needs, refl)
 
 loop-holds : tie.Need-loop-holds Inv-loop μ-loop Inv-look μ-look
@@ -46,8 +55,8 @@ owner-is :
     (c : tie.After-owner-of Inv-loop μ-loop Inv-look μ-look) →
     let l = c .before .before .before in
     let o = l .before .before .before in
-    let a = o .before .before .before .args in
-    c .owner-of .result ≡ ownerIn (a .owners .now) (slotAt (a .f) (o .look .i) (l .loop .k))
+    let a = o .before .before .before .before .before .args in
+    c .owner-of .result ≡ ownerIn (a .owners .now) (slotIn (a .slots .now) (o .look .i) (l .loop .k))
 owner-is c = rw (← c .before .slot-at .ensures) (c .owner-of .ensures)
 
 loop-again : tie.Need-loop-again Inv-loop μ-loop Inv-look μ-look
@@ -56,28 +65,34 @@ loop-again c =
     (l .loop .inv .0, l .loop .inv .1, omega arith, below-more _ _ (l .loop .inv .3) (ne-eqb _ _ (λ q. c .if1 .left (owner-is (c .before) ∙ q))))
 
 look-again : tie.Need-look-again Inv-loop μ-loop Inv-look μ-look
-unfolding leads
 look-again c =
     let l = c .before in
     let o = l .before .before .before in
-    let a = o .before .before .before .args in
-    let none : leads (a .f) (a .owners .now) (a .tag) (o .look .i) ≡ false = none-any (into (a .f) (a .owners .now) (a .tag) (o .look .i)) (widthAt (a .f) (o .look .i)) (λ j h. l .loop .inv .3 j (omega arith)) in
-    (l .loop .inv .0, o .look .inv .1, rw (from-next (o .look .i) (frameCount (a .f)) (omega arith), none) at (o .look .inv .2))
+    let a = o .before .before .before .before .before .args in
+    let i = o .look .i in
+    let none : leads (a .widths .now) (a .slots .now) (a .owners .now) (a .tag) i ≡ false =
+    slot-by-slot (a .widths .now) (a .slots .now) (a .owners .now) (a .tag) i
+    ∙ none-any (into (a .widths .now) (a .slots .now) (a .owners .now) (a .tag) i) (widthIn (a .widths .now) i) (λ j h. l .loop .inv .3 j (omega arith))
+    in
+    (l .loop .inv .0, o .look .inv .1, rw (from-next i (frameCountIn (a .standing)) (omega arith), none) at (o .look .inv .2))
 
 returns : tie.Need-returns Inv-loop μ-loop Inv-look μ-look
 returns c =
     let o = c .before in
-    let a = o .before .before .before .args in
-    o .look .inv .0 ∙ rw (from-end (o .look .i) (frameCount (a .f)) (omega arith)) at (o .look .inv .2)
+    let a = o .before .before .before .before .before .args in
+    o .look .inv .0 ∙ rw (from-end (o .look .i) (frameCountIn (a .standing)) (omega arith)) at (o .look .inv .2)
 
 returns-2 : tie.Need-returns-2 Inv-loop μ-loop Inv-look μ-look
-unfolding leads
 returns-2 c =
     let l = c .before .before .before .before in
     let o = l .before .before .before in
-    let a = o .before .before .before .args in
-    let hit : leads (a .f) (a .owners .now) (a .tag) (o .look .i) ≡ true = any-one (into (a .f) (a .owners .now) (a .tag) (o .look .i)) (widthAt (a .f) (o .look .i)) (l .loop .k) (omega arith) (eq-eqb _ _ (sym (owner-is (c .before)) ∙ c .if1 .taken)) in
-    rw (from-next (o .look .i) (frameCount (a .f)) (omega arith), hit) at (o .look .inv .2)
+    let a = o .before .before .before .before .before .args in
+    let i = o .look .i in
+    let hit : leads (a .widths .now) (a .slots .now) (a .owners .now) (a .tag) i ≡ true =
+    slot-by-slot (a .widths .now) (a .slots .now) (a .owners .now) (a .tag) i
+    ∙ any-one (into (a .widths .now) (a .slots .now) (a .owners .now) (a .tag) i) (widthIn (a .widths .now) i) (l .loop .k) (omega arith) (eq-eqb _ _ (sym (owner-is (c .before)) ∙ c .if1 .taken))
+    in
+    rw (from-next i (frameCountIn (a .standing)) (omega arith), hit) at (o .look .inv .2)
 
 pub look-spec : {M : Type 1} → statement M
 look-spec =

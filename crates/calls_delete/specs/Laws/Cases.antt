@@ -9,11 +9,11 @@ use lib.ListN.{replicate}
 use Rattle.model.specs.Model.{delete}
 use Rattle.frames.specs.Frames.{frameCount, topFrame, widthAt, slotAt, raised}
 use Rattle.kinds.specs.Kinds.{kindCount, sizeOf, markAt, sizeIn}
-use Rattle.regions.specs.Regions.{nameAt, entryOf, tagOf, isLive, parentAt, subregionsOf, countAt, withoutRegion, withCounts, rolled, moved, entryIn, subregionsIn}
+use Rattle.regions.specs.Regions.{nameAt, entryOf, tagOf, isLive, parentAt, subregionsOf, countAt, withoutRegion, withCounts, rolled, moved, entryIn, subregionsIn, recount}
 use Rattle.pages.specs.Pages.{wrongLength, pageCount, ownerAt, takenAt, ownerIn, ownerOf, freed, wrongLengthIn}
-use Rattle.objects.specs.Objects.{walk, headersTo, headersOn, freeWords, freeWordsOn, outOf}
-use Rattle.outcomes.specs.Store.{Store, frames, regions, pages, ledInto, slotTargets}
-use Rattle.outcomes.specs.Outcome.{badLength, dead, checks, refusal, recounted, outgoing, newlyCounted, deleted}
+use Rattle.objects.specs.Objects.{walk, headersTo, headersOn, freeWords, freeWordsOn, freeWordsOf, outOf}
+use Rattle.outcomes.specs.Store.{Store, frames, regions, pages, ledInto, slotTargets, targetsIn, ledIn}
+use Rattle.outcomes.specs.Outcome.{badLength, dead, checks, refusal, recounted, outgoing, newlyCounted, newlyIn, deleted}
 
 -- v: the slot of the top frame. c: the stored count of region 2. n: the name of a subregion of it, 0 for none
 abbrev memory : ℕ → ℕ → ℕ → Store
@@ -41,10 +41,10 @@ shown S = countAt (regions S) 0 ∷ countAt (regions S) 1 ∷ (frames S) .counte
 
 -- one pointer into region 1 went with the page, two came with the frames that are counted now
 goes : shown (deleted (memory 0 0 0) 2) ≡ 2 ∷ 0 ∷ 2 ∷ 1 ∷ 0 ∷ 0 ∷ []
-unfolding frameCount topFrame widthAt slotAt raised kindCount sizeOf markAt nameAt entryOf tagOf countAt withoutRegion withCounts rolled moved pageCount ownerAt takenAt ownerIn ownerOf freed walk headersTo headersOn freeWords freeWordsOn outOf slotTargets recounted outgoing newlyCounted deleted sizeIn entryIn
+unfolding frameCount topFrame widthAt slotAt raised kindCount sizeOf markAt nameAt entryOf tagOf countAt withoutRegion withCounts rolled moved pageCount ownerAt takenAt ownerIn ownerOf freed walk headersTo headersOn freeWords freeWordsOn outOf slotTargets recounted outgoing newlyCounted deleted sizeIn entryIn recount targetsIn newlyIn freeWordsOf
 goes = refl
 
 -- nothing in the way; a slot of the top frame; a stored count; a subregion; a subregion and both kinds of pointer
 refusals : map (λ S. refusal S (delete 2)) (memory 0 0 0 ∷ memory 65 0 0 ∷ memory 0 1 0 ∷ memory 0 0 3 ∷ memory 65 1 3 ∷ []) ≡ 0 ∷ 19 ∷ 19 ∷ 18 ∷ 18 ∷ []
-unfolding frameCount widthAt slotAt nameAt entryOf tagOf isLive parentAt subregionsOf countAt wrongLength ownerIn ownerOf ledInto badLength dead checks refusal entryIn subregionsIn wrongLengthIn
+unfolding frameCount widthAt slotAt nameAt entryOf tagOf isLive parentAt subregionsOf countAt wrongLength ownerIn ownerOf ledInto badLength dead checks refusal entryIn subregionsIn wrongLengthIn ledIn targetsIn
 refusals = refl
