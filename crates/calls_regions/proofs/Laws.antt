@@ -6,7 +6,7 @@ use mathlib.Core.List.{List, [], _∷_}
 use Prim.Native.Nat.{ℕ, _+_, _-_, _*_, _/_, _%_, _<_, _≤_}
 use native.Mathlib.Omega.{arith}
 use lib.Dec.{eqb, ltb, leb}
-use lib.ListN.{length, getD, replicate}
+use lib.ListN.{getD, replicate}
 use lib.Seq.{sets}
 use borrow.Author.Tests.{eqb-true, eqb-false, ltb-true, leb-false, not-false, eq-eqb, ne-eqb, lt-ltb, le-ltb}
 use Rattle.lists.specs.Lists.{pick}
@@ -17,11 +17,12 @@ use Rattle.model.specs.Laws.Passed.{all-passed}
 use Rattle.kinds.specs.Kinds.{kindCount, kindsOf, sizeIn, sizeOf, wrongMarks}
 use Rattle.regions.specs.Regions.{entryIn, entryOf, isLive, newestAt, oldestAt, withPage}
 use Rattle.pages.specs.declared.Pages.{Pages}
-use Rattle.pages.specs.Pages.{pageCount, takenAt, takenIn, isFree, firstFree, pagesOf, withTaken}
+use Rattle.pages.specs.Pages.{pageCount, takenAt, isFree, firstFree, pagesOf, withTaken}
 use Rattle.pages.specs.Laws.Free.{first-none, first-some, first-free}
 use Rattle.outcomes.specs.Store.{Store, frames, kinds, regions, pages, size, roomy}
-use Rattle.outcomes.specs.Outcome.{Chosen, store, withRegions, withPages, withHeap, refusal, checks, dead, fillSlot, allocated, Accepted}
+use Rattle.outcomes.specs.Outcome.{Chosen, store, withRegions, withPages, withHeap, refusal, checks, dead, fillSlot, allocated, Accepted, Outcome}
 use Rattle.outcomes.specs.Laws.Values.{size-most}
+use Rattle.outcomes.specs.Laws.Steps.{by-effect}
 use Rattle.checks.specs.Checks.{orElse}
 use Rattle.checks.specs.Laws.Tests.{top, one-slot, else-first, else-next}
 use Rattle.calls_regions.specs.Tests.{declareTests, moreTests, newTests, subregionTests, allocateTests}
@@ -142,17 +143,17 @@ module _ (S : Store) (slot region kind : ℕ) where
       let d : (v - 1) % 64 ≡ start S entry (1 + words) j = omega arith in
       rw (b, d, a, e)
 
-  -- they do not, and the second decide, on what the code found
-  module _ (e m q v : ℕ) (found : e ≡ entry) (sized : m ≡ words) (paged : q ≡ getD ((regions S) .newest) e 0) where
-    abbrev Placed : Type 0
-    Placed = let p = pages S in v ≡ placeFor (p .made) (p .owners) (p .taken) q (1 + m)
+  -- they do not, and the second decide: e, m, q, v, t and g are what functions gave
+  module _ (e m q v t g : ℕ) (found : e ≡ entry) (sized : m ≡ words) (paged : q ≡ getD ((regions S) .newest) e 0)
+      (placed : v ≡ placeFor ((pages S) .made) ((pages S) .owners) ((pages S) .taken) q (1 + m))
+      (first : t ≡ reason (top S slot slot)) (passed : t ≡ 0) (tested : g ≡ reason (allocateTests ((kinds S) .declared) e kind v)) where
+    pub allocate-second : refusal S (allocate slot region kind) ≡ g
+    allocate-second = tests ∙ else-next (reason (top S slot slot)) t second first passed ∙ rw (tested, placed, paged, found, sized)
 
-    pub allocate-second : Placed → (t g : ℕ) → t ≡ reason (top S slot slot) → t ≡ 0 → g ≡ reason (allocateTests ((kinds S) .declared) e kind v) → refusal S (allocate slot region kind) ≡ g
-    allocate-second placed t g p z h = tests ∙ else-next (reason (top S slot slot)) t second p z ∙ rw (h, placed, paged, found, sized)
-
-    pub allocate-effect : Placed → (a : Answer) (T : Store) → v ≢ 0 → a ≡ gives [] → T ≡ withObject e m v → Accepted (allocate slot region kind) S a T
+    pub allocate-effect : (a : Answer) (T : Store) → g ≡ 0 → a ≡ gives [] → T ≡ withObject e m v → Outcome (allocate slot region kind) S a T
     unfolding Accepted size sizeOf entryOf
-    allocate-effect placed a T z p h =
+    allocate-effect a T z p h =
         let f : v ≡ place S entry (1 + words) = placed ∙ rw (paged, found, sized) in
-        let j = place-some S entry (1 + words) (omega arith) (λ h. z (f ∙ h)) in
+        let j = place-some S entry (1 + words) (omega arith) (λ o. object-passed ((kinds S) .declared) e kind v g tested z .1 (f ∙ o)) in
+        by-effect (allocate slot region kind) S a T (allocate-second ∙ z)
         (p, (j .0, j .1, h ∙ ap₂ (λ x y. withObject x y v) found sized ∙ made (j .0) v (j .2) (f ∙ j .3)))

@@ -217,12 +217,12 @@ pub fn subregion(s: State, heap: &[u32], above: u32) -> Done
             reply: checks::refused(g),
         };
     }
-    let name = given + 1;
+    let next = given + 1;
     let tag = (e + 1) as u8;
     let level = (regions::level_at(&t.regions.levels, e) + 1) as u8;
     let at = regions::unused(&t.regions.names);
-    t.regions.given = name;
-    regions::put_word(&mut t.regions.names, at, name);
+    t.regions.given = next;
+    regions::put_word(&mut t.regions.names, at, next);
     regions::put_byte(&mut t.regions.parents, at, tag);
     regions::put_byte(&mut t.regions.levels, at, level);
     regions::put_word(&mut t.regions.counts, at, 0);
@@ -230,7 +230,7 @@ pub fn subregion(s: State, heap: &[u32], above: u32) -> Done
     regions::put_word(&mut t.regions.oldest, at, 0);
     Done {
         state: t,
-        reply: checks::gives(name, 0, 0, 0),
+        reply: checks::gives(next, 0, 0, 0),
     }
 }
 

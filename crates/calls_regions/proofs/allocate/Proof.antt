@@ -1,4 +1,4 @@
-use mathlib.Core.Path.{refl, _∙_}
+use mathlib.Core.Path.{refl}
 use Prim.Native.Nat.{ℕ}
 use native.Mathlib.Omega.{arith}
 use lib.ListN.{getD}
@@ -9,7 +9,7 @@ use Rattle.frames.specs.Frames.{putSlot, topFrame}
 use Rattle.regions.specs.Regions.{oldestAt, withPage}
 use Rattle.pages.specs.Pages.{withTaken}
 use Rattle.outcomes.specs.Outcome.{fillSlot}
-use Rattle.outcomes.specs.Laws.Steps.{by-refusal, by-effect}
+use Rattle.outcomes.specs.Laws.Steps.{by-refusal}
 use Rattle.calls_regions.proofs.Laws.{by-parts, size-small, object-passed, allocate-first, allocate-second, allocate-effect}
 use Rattle.calls_regions.proofs.allocate.Statement.{statement}
 use Rattle.calls_regions.proofs.allocate.Tie as tie
@@ -40,7 +40,7 @@ returns-2 c =
     let e = n .before .before .before .before in
     let t = e .before .before .before .before in
     by-refusal _ _ _ _ _
-    (allocate-second _ _ _ _ _ _ _ _ (e .entry-of .ensures) (n .size-of .ensures) (q .newest-at .ensures) (v .place-for .ensures .0) _ _ (t .before .top-refusal .ensures) (t .if1 .left) (o .allocate-refusal .ensures))
+    (allocate-second _ _ _ _ _ _ _ _ _ _ (e .entry-of .ensures) (n .size-of .ensures) (q .newest-at .ensures) (v .place-for .ensures .0) (t .before .top-refusal .ensures) (t .if1 .left) (o .allocate-refusal .ensures))
     (c .before .if2 .taken) (c .refused2 .ensures) refl
 
 sub-at : tie.Need-sub-at
@@ -71,10 +71,10 @@ returns-3 c =
     let n = q .before .before .before .before in
     let e = n .before .before .before .before in
     let t = e .before .before .before .before in
-    by-effect _ _ _ _ (allocate-second _ _ _ _ _ _ _ _ (e .entry-of .ensures) (n .size-of .ensures) (q .newest-at .ensures) (v .place-for .ensures .0) _ _ (t .before .top-refusal .ensures) (t .if1 .left) (o .allocate-refusal .ensures) ∙ i .if2 .left)
-    (allocate-effect _ _ _ _ _ _ _ _ (e .entry-of .ensures) (n .size-of .ensures) (q .newest-at .ensures) (v .place-for .ensures .0) _ _ (object-passed _ _ _ _ _ (o .allocate-refusal .ensures) (i .if2 .left) .1) (c .gives .ensures)
+    allocate-effect _ _ _ _ _ _ _ _ _ _ (e .entry-of .ensures) (n .size-of .ensures) (q .newest-at .ensures) (v .place-for .ensures .0) (t .before .top-refusal .ensures) (t .if1 .left) (o .allocate-refusal .ensures) _ _
+    (i .if2 .left) (c .gives .ensures)
     (by-parts _ _ (rw (f .put-slot .ensures, f .before .top .ensures)) refl (rw (l .put-word .ensures, h .put-half .ensures, d .oldest-with .ensures))
-    (rw (w .put-byte2 .ensures, u .put-byte .ensures)) (y .lay .ensures)))
+    (rw (w .put-byte2 .ensures, u .put-byte .ensures)) (y .lay .ensures))
 
 pub allocate-spec : {M : Type 1} → statement M
 allocate-spec = tie.close (tie.spec (λ c κs. search needs) (λ c κs. search needs) returns (λ c κs. search needs) (λ c κs. search needs) words-fit (λ c κs. search needs) place-for-requires (λ c κs. search needs) (λ c κs. search needs) returns-2 sub-at (λ c. omega (arith, tag-fits c .fits)) tag-fits (λ c. search needs) (λ c. search needs) (λ c. omega (arith, taken-fits c .fits)) taken-fits (λ c κs. search needs) (λ c κs. search needs) (λ c κs. search needs) (λ c κs. search needs) (λ c κs. search needs) (λ c κs. search needs) (λ c κs. search needs) (λ c κs. search needs) (λ c κs. search needs) (λ c. search needs) returns-3)

@@ -6,7 +6,7 @@ use lib.ListN.{length}
 use borrow.Author.Needs.{needs}
 use Rattle.model.specs.Model.{declare}
 use Rattle.model.specs.Calls.{reason}
-use Rattle.kinds.specs.Kinds.{withKind, wrongMarks}
+use Rattle.kinds.specs.Kinds.{withKind}
 use Rattle.kinds.specs.Laws.Marks.{marks-right}
 use Rattle.pages.specs.Pages.{wrongLength}
 use Rattle.outcomes.specs.Store.{Store, kinds, pages}

@@ -26,7 +26,7 @@ returns c =
     by-refusal _ _ _ _ _ (tests _ _ _ (t .before .before .before .before .before .before .entry-of .ensures) ∙ sym (t .subregion-refusal .ensures)) (c .before .if1 .taken) (c .refused .ensures) refl
 
 -- where the tests passed there is a next name, and the tag and the level fit their bytes
-name-fits : tie.Need-add-name
+name-fits : tie.Need-add-next
 name-fits c = omega (arith, subregion-passed _ _ _ _ _ _ _ (c .before .subregion-refusal .ensures) (c .if1 .left) .2)
 
 tag-fits : tie.Need-cast-tag

@@ -10,8 +10,9 @@ use Rattle.lists.specs.Lists.{bit, every, upTo}
 use Rattle.model.specs.Model.{declare, newRegion, subregion, allocate}
 use Rattle.model.specs.Calls.{makes}
 use Rattle.frames.specs.Frames.{frameCount, topFrame, widthAt, slotAt, putSlot}
+use Rattle.kinds.specs.declared.Kinds.{Kinds}
 use Rattle.kinds.specs.Kinds.{kindCount, sizeOf, markAt, withKind, wrongMarks, sizeIn}
-use Rattle.regions.specs.Regions.{nameAt, entryOf, tagOf, isLive, liveCount, levelAt, newestAt, oldestAt, unused, withRegion, withPage, entryIn, liveIn, unusedIn}
+use Rattle.regions.specs.Regions.{nameAt, entryOf, tagOf, isLive, liveCount, levelAt, newestAt, oldestAt, countAt, unused, withRegion, withPage, entryIn, liveIn, unusedIn}
 use Rattle.pages.specs.Pages.{pageCount, ownerAt, takenAt, isFree, pagesOf, wrongLength, withTaken, pagesIn, wrongLengthIn}
 use Rattle.outcomes.specs.Store.{Store, regions, pages, slot, size, roomy}
 use Rattle.outcomes.specs.Outcome.{withRegions, withPages, withHeap, badLength, noFrame, lacks, dead, full, namesOut, checks, refusal, fillSlot, allocated, blank}
@@ -33,6 +34,10 @@ crowded = let r = regions small in withRegions small (record { given = 64; names
 abbrev tight : Store
 tight = withPages small (record { made = 2; owners = (pages small) .owners; taken = 6 ∷ 62 ∷ replicate 254 0 })
 
+-- two kinds of 16 words, marked 4 and 1
+abbrev paired : Kinds
+paired = withKind (withKind (blank 1 1 .kinds) (replicate 16 4)) (replicate 16 1)
+
 -- what is computed, and what it has to be
 abbrev cases : List (ℕ × ℕ)
 cases =
@@ -45,12 +50,18 @@ cases =
     ∷ (refusal small (declare (replicate 17 0)), 11)
     ∷ (refusal small (declare (5 ∷ [])), 11)
     ∷ (refusal small (declare (replicate 16 4)), 0)
+    -- marks_of_two_kinds_overlap
+    ∷ (markAt paired 1 15, 4)
+    ∷ (markAt paired 2 15, 1)
     -- region_65_uses_a_name
     ∷ (refusal crowded newRegion, 4)
     ∷ (refusal crowded (subregion 1), 4)
     -- same_name_twice
     ∷ ((regions small) .given, 7)
     ∷ ((regions four) .given, 8)
+    -- new_count_is_not_0: the entry held 77
+    ∷ (countAt (regions small) 1, 77)
+    ∷ (countAt (regions four) 1, 0)
     -- subregion_at_the_level_above: region 5 is at level 2
     ∷ (levelAt (withRegion (regions small) 1 (tagOf (regions small) 5) (levelAt (regions small) (entryOf (regions small) 5) + 1)) 1, 3)
     -- no_page_while_one_is_free: region 8 has no page
@@ -66,5 +77,5 @@ cases =
     ∷ []
 
 pub computed : every (λ p. eqb (p .0) (p .1)) cases ≡ true
-unfolding frameCount topFrame widthAt slotAt putSlot kindCount sizeOf markAt withKind wrongMarks nameAt entryOf tagOf isLive liveCount levelAt newestAt oldestAt unused withRegion withPage pageCount ownerAt takenAt isFree pagesOf wrongLength withTaken slot size roomy badLength noFrame lacks dead full namesOut checks refusal fillSlot allocated blank sizeIn entryIn liveIn unusedIn pagesIn wrongLengthIn
+unfolding frameCount topFrame widthAt slotAt putSlot kindCount sizeOf markAt withKind wrongMarks nameAt entryOf tagOf isLive liveCount levelAt newestAt oldestAt countAt unused withRegion withPage pageCount ownerAt takenAt isFree pagesOf wrongLength withTaken slot size roomy badLength noFrame lacks dead full namesOut checks refusal fillSlot allocated blank sizeIn entryIn liveIn unusedIn pagesIn wrongLengthIn
 computed = refl
