@@ -5,24 +5,24 @@ use borrow.Author.Needs.{needs}
 use lib.Dec.{leb}
 use borrow.Author.Tests.{le-leb, lt-leb}
 use Rattle.lists.specs.Laws.Every.{Passed, passed-none, passed-more, passed-not, passed-all}
-use Rattle.kinds.specs.Kinds.{sizeOf, markAt}
+use Rattle.kinds.specs.Kinds.{sizeIn, markIn}
 use Rattle.audit_state.specs.Fits.{marksFit}
 use Rattle.audit_state.proofs.marks_fit.Statement.{statement}
 use Rattle.audit_state.proofs.marks_fit.Tie as tie
 
 -- the marks passed are at most 4
 abbrev Inv-loop : tie.InvT-loop
-Inv-loop k n size w₀ w = (size ≡ sizeOf k n) × Passed (λ w. leb (markAt k n w) 4) (sizeOf k n) w
+Inv-loop declared sizes marks n size w₀ w = (size ≡ sizeIn declared sizes n) × Passed (λ w. leb (markIn marks n w) 4) (sizeIn declared sizes n) w
 
 abbrev μ-loop : tie.MeasureT-loop
-μ-loop k n size w₀ w = size - w
+μ-loop declared sizes marks n size w₀ w = size - w
 
 returns : tie.Need-returns Inv-loop μ-loop
 unfolding marksFit
 returns c =
     let l = c .before .before .before in
-    let a = l .before .before .args in
-    passed-not _ (sizeOf (a .k) (a .n)) (l .loop .w) (omega arith) (rw (← c .before .mark-at .ensures) (lt-leb (c .before .mark-at .result) 4 (omega arith)))
+    let a = l .before .before .before .before .args in
+    passed-not _ (sizeIn (a .declared) (a .sizes .now) (a .n)) (l .loop .w) (omega arith) (rw (← c .before .mark-at .ensures) (lt-leb (c .before .mark-at .result) 4 (omega arith)))
 
 loop-again : tie.Need-loop-again Inv-loop μ-loop
 loop-again c =
@@ -31,7 +31,7 @@ loop-again c =
 
 returns-2 : tie.Need-returns-2 Inv-loop μ-loop
 unfolding marksFit
-returns-2 c = let l = c .before in let a = l .before .before .args in passed-all _ (sizeOf (a .k) (a .n)) (l .loop .w) (l .loop .inv .1) (omega arith)
+returns-2 c = let l = c .before in let a = l .before .before .before .before .args in passed-all _ (sizeIn (a .declared) (a .sizes .now) (a .n)) (l .loop .w) (l .loop .inv .1) (omega arith)
 
 pub marks-fit-spec : {M : Type 1} → statement M
 marks-fit-spec =

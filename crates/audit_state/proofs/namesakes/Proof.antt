@@ -1,11 +1,10 @@
 use borrow.Author.Needs.{needs}
-use Rattle.regions.specs.Regions.{nameAt}
 use Rattle.audit_state.specs.Fits.{namesakes}
 use Rattle.audit_state.proofs.namesakes.Statement.{statement}
 use Rattle.audit_state.proofs.namesakes.Tie as tie
 
 returns : tie.Need-returns
-unfolding namesakes nameAt
+unfolding namesakes
 returns c = c .count .ensures
 
 pub namesakes-spec : {M : Type 1} → statement M

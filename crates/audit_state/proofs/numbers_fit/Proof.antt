@@ -4,30 +4,30 @@ use Prim.Native.Nat.{_*_, _≤_}
 use native.Mathlib.Omega.{arith}
 use borrow.Author.Needs.{needs}
 use borrow.Author.Tests.{eq-eqb, ne-eqb, le-leb, lt-leb, not-true, not-false}
-use Rattle.frames.specs.Frames.{topFrame}
+use Rattle.frames.specs.Frames.{topIn}
 use Rattle.outcomes.specs.Sound.{within}
 use Rattle.audit_state.specs.Fits.{numbersFit}
 use Rattle.audit_state.proofs.numbers_fit.Statement.{statement}
 use Rattle.audit_state.proofs.numbers_fit.Tie as tie
 
 -- the test of the pages made; what holds behind each test
-test : (c : tie.After-within) → within 1 256 (c .before .before .before .before .before .args .s .pages .made) ≡ c .within .result
+test : (c : tie.After-within) → within 1 256 (c .before .args .made) ≡ c .within .result
 test c = sym (c .within .ensures)
 
-made : (c : tie.Else1) → within 1 256 (c .before .before .before .before .before .before .args .s .pages .made) ≡ true
+made : (c : tie.Else1) → within 1 256 (c .before .before .args .made) ≡ true
 made c = test (c .before) ∙ not-false (c .before .within .result) (c .if1 .left)
 
-long : (c : tie.Else2) → let a = c .before .before .before .before .before .before .before .before .args in a .n ≡ 64 * a .s .pages .made
+long : (c : tie.Else2) → let a = c .before .before .before .args in a .n ≡ 64 * a .made
 long c = omega arith
 
-declared : (c : tie.Else3) → c .before .before .before .before .before .before .before .before .before .before .args .s .kinds .declared ≤ 16
+declared : (c : tie.Else3) → c .before .before .before .before .args .declared ≤ 16
 declared c = omega arith
 
-standing : (c : tie.Else4) → c .before .before .before .before .before .before .before .before .before .before .before .before .args .s .frames .standing ≤ 32
+standing : (c : tie.Else4) → c .before .before .before .before .before .args .standing ≤ 32
 standing c = omega arith
 
-counted : (c : tie.Else5) → let f = c .before .before .before .before .before .before .before .before .before .before .before .before .before .before .before .args .s .frames in f .counted ≤ topFrame f
-counted c = omega (arith, c .before .before .top .ensures)
+counted : (c : tie.Else5) → let a = c .before .before .before .before .before .before .before .args in a .counted ≤ topIn (a .standing)
+counted c = omega (arith, c .before .top .ensures)
 
 returns : tie.Need-returns
 unfolding numbersFit
@@ -36,39 +36,38 @@ returns c = rw (test (c .before)) (simp (not-true (c .before .within .result) (c
 returns-2 : tie.Need-returns-2
 unfolding numbersFit
 returns-2 c =
-    let a = c .before .before .before .before .before .before .before .before .args in
-    rw (made (c .before .before)) (simp (ne-eqb (a .n) (64 * a .s .pages .made) (λ e. omega arith)))
+    let a = c .before .before .before .args in
+    rw (made (c .before)) (simp (ne-eqb (a .n) (64 * a .made) (λ e. omega arith)))
 
 returns-3 : tie.Need-returns-3
 unfolding numbersFit
 returns-3 c =
-    let n = c .before .before in
-    rw (made (n .before .before), eq-eqb _ _ (long n)) (simp (lt-leb (c .before .before .before .before .before .before .before .before .before .before .args .s .kinds .declared) 16 (omega arith)))
+    let n = c .before in
+    rw (made (n .before), eq-eqb _ _ (long n)) (simp (lt-leb (n .before .before .before .args .declared) 16 (omega arith)))
 
 returns-4 : tie.Need-returns-4
 unfolding numbersFit
 returns-4 c =
-    let k = c .before .before in
-    let n = k .before .before in
-    rw (made (n .before .before), eq-eqb _ _ (long n), le-leb _ _ (declared k)) (simp (lt-leb (c .before .before .before .before .before .before .before .before .before .before .before .before .args .s .frames .standing) 32 (omega arith)))
+    let k = c .before in
+    let n = k .before in
+    rw (made (n .before), eq-eqb _ _ (long n), le-leb _ _ (declared k)) (simp (lt-leb (n .before .before .before .args .standing) 32 (omega arith)))
 
 returns-5 : tie.Need-returns-5
 unfolding numbersFit
 returns-5 c =
-    let f = c .before .before .before in
-    let k = f .before .before in
-    let n = k .before .before in
-    let s = c .before .before .before .before .before .before .before .before .before .before .before .before .before .before .before .args .s .frames in
-    rw (made (n .before .before), eq-eqb _ _ (long n), le-leb _ _ (declared k), le-leb _ _ (standing f)) (simp (lt-leb (s .counted) (topFrame s) (omega (arith, c .before .before .top .ensures))))
+    let f = c .before .before in
+    let k = f .before in
+    let n = k .before in
+    let a = n .before .before .before .args in
+    rw (made (n .before), eq-eqb _ _ (long n), le-leb _ _ (declared k), le-leb _ _ (standing f)) (simp (lt-leb (a .counted) (topIn (a .standing)) (omega (arith, c .before .top .ensures))))
 
 returns-6 : tie.Need-returns-6
 unfolding numbersFit
 returns-6 c =
-    let m = c .before in
-    let f = m .before .before .before in
-    let k = f .before .before in
-    let n = k .before .before in
-    rw (made (n .before .before), eq-eqb _ _ (long n), le-leb _ _ (declared k), le-leb _ _ (standing f), le-leb _ _ (counted m))
+    let f = c .before .before in
+    let k = f .before in
+    let n = k .before in
+    rw (made (n .before), eq-eqb _ _ (long n), le-leb _ _ (declared k), le-leb _ _ (standing f), le-leb _ _ (counted c))
 
 pub numbers-fit-spec : {M : Type 1} → statement M
-numbers-fit-spec = tie.close (tie.spec (λ c κs. search needs) returns (λ c. search needs) (λ c. search needs) returns-2 returns-3 returns-4 (λ c κs. search needs) returns-5 returns-6)
+numbers-fit-spec = tie.close (tie.spec (λ c κs. search needs) returns (λ c. search needs) returns-2 returns-3 returns-4 (λ c κs. search needs) returns-5 returns-6)

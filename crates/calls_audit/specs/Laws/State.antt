@@ -14,14 +14,14 @@ use Rattle.lists.specs.Lists.{pick, every, All, upTo, times, among}
 use Rattle.lists.specs.Laws.Tests.{both, by-test, or-other, or-right}
 use Rattle.lists.specs.Laws.UpTo.{every-each, each-every}
 use Rattle.lists.specs.Laws.Every.{every-map, every-below}
-use Rattle.frames.specs.Frames.{frameCount, topFrame, widthAt}
-use Rattle.kinds.specs.Kinds.{kindCount, sizeOf, markAt}
-use Rattle.regions.specs.Regions.{nameAt, parentAt, levelAt, isLive}
+use Rattle.frames.specs.Frames.{frameCount, widthAt}
+use Rattle.kinds.specs.Kinds.{kindCountIn, kindCount, sizeOf, markAt}
+use Rattle.regions.specs.Regions.{nameAt, parentAt, levelAt, entryOf, isLive}
 use Rattle.outcomes.specs.Store.{Store, frames, kinds, regions, pages}
 use Rattle.outcomes.specs.History.{entries, listedKinds, listedFrames}
 use Rattle.outcomes.specs.Sound.{Sound, within, placed}
 use Rattle.outcomes.specs.Laws.Begin.{every-entry, name-times, one-lives}
-use Rattle.audit_state.specs.Fits.{numbersFit, marksFit, kindFits, kindsFit, widthsFit, placedAt, namesakes, regionFits, entryFits, regionsFit, stateFits}
+use Rattle.audit_state.specs.Fits.{numbersFit, marksFit, kindFits, kindsFit, widthsFit, placedAt, namesakes, regionFits, entryFits, regionsFit, stateFitsIn, stateFits}
 
 -- tests joined by `&&`, from the left
 abbrev pub folded : Bool → List Bool → Bool
@@ -44,24 +44,52 @@ module _ (S : Store) where
   entry-each f h = every-entry S f ∙ each-every (λ i. eqb (nameAt (regions S) i) 0 || f i) 64 (λ i l.
       by-test (eqb (nameAt (regions S) i) 0) (λ e. rw e) (λ e. or-right (eqb (nameAt (regions S) i) 0) (f i) (h i l (eqb-false (nameAt (regions S) i) 0 e))))
 
+  -- ---- the tests over lists, of those of S
+
+  abbrev marksPass : ℕ → Bool
+  marksPass = marksFit ((kinds S) .declared) ((kinds S) .sizes) ((kinds S) .marks)
+
+  abbrev kindPasses : ℕ → Bool
+  kindPasses = kindFits ((kinds S) .declared) ((kinds S) .sizes) ((kinds S) .marks)
+
+  abbrev kindsPass : Bool
+  kindsPass = kindsFit ((kinds S) .declared) ((kinds S) .sizes) ((kinds S) .marks)
+
+  abbrev widthsPass : Bool
+  widthsPass = widthsFit ((frames S) .standing) ((frames S) .widths)
+
+  abbrev placePasses : ℕ → Bool
+  placePasses = placedAt ((regions S) .names) ((regions S) .parents) ((regions S) .levels)
+
+  abbrev regionPasses : ℕ → Bool
+  regionPasses = regionFits ((regions S) .given) ((regions S) .names) ((regions S) .parents) ((regions S) .levels)
+
+  abbrev entryPasses : ℕ → Bool
+  entryPasses = entryFits ((regions S) .given) ((regions S) .names) ((regions S) .parents) ((regions S) .levels)
+
+  abbrev regionsPass : Bool
+  regionsPass = regionsFit ((regions S) .given) ((regions S) .names) ((regions S) .parents) ((regions S) .levels)
+
+  abbrev numbersPass : Bool
+  numbersPass = numbersFit ((pages S) .made) (length (S .heap)) ((kinds S) .declared) ((frames S) .standing) ((frames S) .counted) ((regions S) .given)
+
   -- ---- clauses that are the same tests
 
-  all-kinds : leb ((kinds S) .declared) 16 ≡ true → kindCount (kinds S) ≡ (kinds S) .declared
-  unfolding kindCount
+  all-kinds : leb ((kinds S) .declared) 16 ≡ true → kindCountIn ((kinds S) .declared) ≡ (kinds S) .declared
   all-kinds e = omega (arith, leb-true ((kinds S) .declared) 16 e)
 
-  marks-same : every (every (λ m. leb m 4)) (listedKinds S) ≡ every (λ n. marksFit (kinds S) (suc n)) (upTo (kindCount (kinds S)))
-  unfolding listedKinds marksFit
+  marks-same : every (every (λ m. leb m 4)) (listedKinds S) ≡ every (λ n. marksPass (suc n)) (upTo (kindCountIn ((kinds S) .declared)))
+  unfolding listedKinds marksFit kindCount sizeOf markAt
   marks-same =
       every-map (every (λ m. leb m 4)) (λ n. map (markAt (kinds S) (suc n)) (upTo (sizeOf (kinds S) (suc n)))) (upTo (kindCount (kinds S)))
       ∙ every-below _ _ (kindCount (kinds S)) (λ n h. every-map (λ m. leb m 4) (markAt (kinds S) (suc n)) (upTo (sizeOf (kinds S) (suc n))))
 
-  pub widths-same : every (within 1 8) (listedFrames S) ≡ widthsFit (frames S)
-  unfolding listedFrames widthsFit
+  pub widths-same : every (within 1 8) (listedFrames S) ≡ widthsPass
+  unfolding listedFrames widthsFit frameCount widthAt
   widths-same = every-map (within 1 8) (widthAt (frames S)) (upTo (frameCount (frames S)))
 
-  placed-same : (i : ℕ) → placed S i ≡ placedAt (regions S) i
-  unfolding placed placedAt
+  placed-same : (i : ℕ) → placed S i ≡ placePasses i
+  unfolding placed placedAt nameAt parentAt levelAt
   placed-same i = go (parentAt (regions S) i)
     where
       go : (t : ℕ)
@@ -70,21 +98,21 @@ module _ (S : Store) where
       go zero = refl
       go (suc p) = let e : suc p - 1 ≡ p = omega arith in rw (eqb·suc-zero p, e)
 
-  names-same : (i : ℕ) → nameAt (regions S) i ≢ 0 → times (nameAt (regions S) i) (map (nameAt (regions S)) (entries S)) ≡ namesakes (regions S) (nameAt (regions S) i)
-  unfolding namesakes
+  names-same : (i : ℕ) → nameAt (regions S) i ≢ 0 → times (nameAt (regions S) i) (map (nameAt (regions S)) (entries S)) ≡ namesakes ((regions S) .names) (nameAt (regions S) i)
+  unfolding namesakes nameAt
   names-same i h = name-times S (nameAt (regions S) i) h
 
   -- ---- from Sound
 
   module _ (h : Sound S) where
-    kinds-pass : kindsFit (kinds S) ≡ true
+    kinds-pass : kindsPass ≡ true
     unfolding kindsFit kindFits
-    kinds-pass = each-every (kindFits (kinds S)) (kindCount (kinds S)) (λ i l.
+    kinds-pass = each-every kindPasses (kindCountIn ((kinds S) .declared)) (λ i l.
         rw (every-each (λ k. within 1 16 (getD ((kinds S) .sizes) k 0)) ((kinds S) .declared) (h .sizes) i (omega (arith, all-kinds (h .declared))), add-one i)
-        (every-each (λ n. marksFit (kinds S) (suc n)) (kindCount (kinds S)) (sym marks-same ∙ h .marks) i l))
+        (every-each (λ n. marksPass (suc n)) (kindCountIn ((kinds S) .declared)) (sym marks-same ∙ h .marks) i l))
 
-    region-passes : (i : ℕ) → i < 64 → nameAt (regions S) i ≢ 0 → regionFits (regions S) i ≡ true
-    unfolding regionFits
+    region-passes : (i : ℕ) → i < 64 → nameAt (regions S) i ≢ 0 → regionPasses i ≡ true
+    unfolding regionFits nameAt levelAt
     region-passes i l n =
         rw (
           each-entry (λ i. leb (nameAt (regions S) i) ((regions S) .given)) (h .past) i l n,
@@ -94,20 +122,20 @@ module _ (S : Store) where
         )
         (sym (placed-same i) ∙ each-entry (placed S) (h .parents) i l n)
 
-    regions-pass : regionsFit (regions S) ≡ true
-    unfolding regionsFit entryFits
-    regions-pass = rw (sym (one-lives S) ∙ h .one) (sym (every-entry S (regionFits (regions S))) ∙ entry-each (regionFits (regions S)) region-passes)
+    regions-pass : regionsPass ≡ true
+    unfolding regionsFit entryFits nameAt isLive entryOf
+    regions-pass = rw (sym (one-lives S) ∙ h .one) (sym (every-entry S regionPasses) ∙ entry-each regionPasses region-passes)
 
     pub state-passes : stateFits (S .state) (length (S .heap)) ≡ true
-    unfolding stateFits numbersFit topFrame
+    unfolding stateFits stateFitsIn numbersFit
     state-passes = rw (h .made, h .heapLength, h .declared, h .standing, h .counted, h .given, kinds-pass, sym widths-same ∙ h .widths) regions-pass
 
   -- ---- and back
 
   module _ (e : stateFits (S .state) (length (S .heap)) ≡ true) where
-    groups : (numbersFit (S .state) (length (S .heap)) ≡ true) × All (λ b. b ≡ true) (kindsFit (kinds S) ∷ widthsFit (frames S) ∷ regionsFit (regions S) ∷ [])
-    unfolding stateFits
-    groups = folded-true (numbersFit (S .state) (length (S .heap))) (kindsFit (kinds S) ∷ widthsFit (frames S) ∷ regionsFit (regions S) ∷ []) e
+    groups : (numbersPass ≡ true) × All (λ b. b ≡ true) (kindsPass ∷ widthsPass ∷ regionsPass ∷ [])
+    unfolding stateFits stateFitsIn
+    groups = folded-true numbersPass (kindsPass ∷ widthsPass ∷ regionsPass ∷ []) e
 
     pub record Numbers : Type 0 where
       pub made : within 1 256 ((pages S) .made) ≡ true
@@ -118,40 +146,40 @@ module _ (S : Store) where
       pub given : leb ((regions S) .given) 1000000 ≡ true
 
     pub numbers : Numbers
-    unfolding numbersFit topFrame
+    unfolding numbersFit
     numbers =
         let t = folded-true (within 1 256 ((pages S) .made)) (eqb (length (S .heap)) (64 * (pages S) .made) ∷ leb ((kinds S) .declared) 16 ∷ leb ((frames S) .standing) 32 ∷ leb ((frames S) .counted) ((frames S) .standing - 1) ∷ leb ((regions S) .given) 1000000 ∷ []) (groups .0) in
         record { made = t .0; heapLength = t .1 .0; declared = t .1 .1 .0; standing = t .1 .1 .1 .0; counted = t .1 .1 .1 .1 .0; given = t .1 .1 .1 .1 .1 .0 }
 
-    kind-parts : (i : ℕ) → i < kindCount (kinds S) → (within 1 16 (getD ((kinds S) .sizes) i 0) ≡ true) × (marksFit (kinds S) (suc i) ≡ true)
+    kind-parts : (i : ℕ) → i < kindCountIn ((kinds S) .declared) → (within 1 16 (getD ((kinds S) .sizes) i 0) ≡ true) × (marksPass (suc i) ≡ true)
     unfolding kindsFit kindFits
-    kind-parts i l = rw (add-one i) at (both (within 1 16 (getD ((kinds S) .sizes) i 0)) (marksFit (kinds S) (i + 1)) (every-each (kindFits (kinds S)) (kindCount (kinds S)) (groups .1 .0) i l))
+    kind-parts i l = rw (add-one i) at (both (within 1 16 (getD ((kinds S) .sizes) i 0)) (marksPass (i + 1)) (every-each kindPasses (kindCountIn ((kinds S) .declared)) (groups .1 .0) i l))
 
     pub sizes : every (λ k. within 1 16 (getD ((kinds S) .sizes) k 0)) (upTo ((kinds S) .declared)) ≡ true
     sizes = each-every (λ k. within 1 16 (getD ((kinds S) .sizes) k 0)) ((kinds S) .declared) (λ i l. kind-parts i (omega (arith, all-kinds (numbers .declared))) .0)
 
     pub marks : every (every (λ m. leb m 4)) (listedKinds S) ≡ true
-    marks = marks-same ∙ each-every (λ n. marksFit (kinds S) (suc n)) (kindCount (kinds S)) (λ i l. kind-parts i l .1)
+    marks = marks-same ∙ each-every (λ n. marksPass (suc n)) (kindCountIn ((kinds S) .declared)) (λ i l. kind-parts i l .1)
 
     pub widths : every (within 1 8) (listedFrames S) ≡ true
     widths = widths-same ∙ groups .1 .1 .0
 
-    region-groups : (isLive (regions S) 1 ≡ true) × (every (entryFits (regions S)) (upTo 64) ≡ true)
-    unfolding regionsFit
-    region-groups = both (isLive (regions S) 1) (every (entryFits (regions S)) (upTo 64)) (groups .1 .1 .1 .0)
+    region-groups : (isLive (regions S) 1 ≡ true) × (every entryPasses (upTo 64) ≡ true)
+    unfolding regionsFit isLive entryOf
+    region-groups = both (isLive (regions S) 1) (every entryPasses (upTo 64)) (groups .1 .1 .1 .0)
 
     pub record Region (i : ℕ) : Type 0 where
       pub past : leb (nameAt (regions S) i) ((regions S) .given) ≡ true
-      pub alone : eqb (namesakes (regions S) (nameAt (regions S) i)) 1 ≡ true
+      pub alone : eqb (namesakes ((regions S) .names) (nameAt (regions S) i)) 1 ≡ true
       pub level : leb (levelAt (regions S) i) 16 ≡ true
-      pub below : placedAt (regions S) i ≡ true
+      pub below : placePasses i ≡ true
 
     pub region : (i : ℕ) → i < 64 → nameAt (regions S) i ≢ 0 → Region i
-    unfolding entryFits regionFits
+    unfolding entryFits regionFits nameAt levelAt
     region i l n =
         let g = regions S in
-        let f = or-other (eqb (nameAt g i) 0) (regionFits g i) (every-each (entryFits g) 64 (region-groups .1) i l) (ne-eqb (nameAt g i) 0 n) in
-        let t = folded-true (leb (nameAt g i) (g .given)) (eqb (namesakes g (nameAt g i)) 1 ∷ leb (levelAt g i) 16 ∷ placedAt g i ∷ []) f in
+        let f = or-other (eqb (nameAt g i) 0) (regionPasses i) (every-each entryPasses 64 (region-groups .1) i l) (ne-eqb (nameAt g i) 0 n) in
+        let t = folded-true (leb (nameAt g i) (g .given)) (eqb (namesakes (g .names) (nameAt g i)) 1 ∷ leb (levelAt g i) 16 ∷ placePasses i ∷ []) f in
         record { past = t .0; alone = t .1 .0; level = t .1 .1 .0; below = t .1 .1 .1 .0 }
 
     pub levels : every (λ i. leb (levelAt (regions S) i) 16) (entries S) ≡ true
