@@ -44,7 +44,15 @@ fn words_hold(
     let mut w: u32 = 0;
     while w < n {
         let m = objects::mark_of(marks, object, w);
-        if !word_holds(heads, names, owners, own, above, m, objects::word_at(object, w)) {
+        if !word_holds(
+            heads,
+            names,
+            owners,
+            own,
+            above,
+            m,
+            objects::word_at(object, w),
+        ) {
             return false;
         }
         w += 1;
@@ -107,7 +115,19 @@ fn page_holds<'a, 'b, 'c>(
     let own = regions::name_of(names, t);
     let above = regions::name_of(names, regions::parent_at(parents, t - 1));
     let n = pages::taken_at(taken, j);
-    objects_hold(declared, sizes, marks, heap, heads, names, owners, own, above, j, n)
+    objects_hold(
+        declared,
+        sizes,
+        marks,
+        heap,
+        heads,
+        names,
+        owners,
+        own,
+        above,
+        j,
+        n,
+    )
 }
 
 // Whether every pointer word is null, or leads to an object that its mark allows.
@@ -128,7 +148,18 @@ pub fn pages_hold<'a, 'b, 'c>(
     let n = pages::page_count(made);
     let mut j: u32 = 0;
     while j < n {
-        if !page_holds(declared, sizes, marks, heap, heads, names, parents, owners, taken, j) {
+        if !page_holds(
+            declared,
+            sizes,
+            marks,
+            heap,
+            heads,
+            names,
+            parents,
+            owners,
+            taken,
+            j,
+        ) {
             return false;
         }
         j += 1;
