@@ -1,2 +1,3 @@
--- Laws of the walk of a page, proved.
+-- Laws of walks and of ticked places, proved.
 pub mod Walks
+pub mod Ticks

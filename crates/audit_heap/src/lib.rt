@@ -1,23 +1,18 @@
-// The audit's tests of pages, of newest pages and oldest objects, and of slots.
-use frames::Frames;
-use kinds::Kinds;
-use pages::Pages;
-use regions::Regions;
+// The audit's tests of pages, of newest pages and oldest objects, and of slots. Headers are ticked once, in an array with a byte for each word of the heap.
 ghost use mathlib.Core.Path.{_≡_};
-ghost use Rattle.lists.specs.Lists.{among};
-ghost use Rattle.objects.specs.Objects.{headersTo};
-ghost use Rattle.audit_heap.specs.Heap.{filledTo, pageFits, pagesFit, standsAt, known, newestFits, oldestFits, entryOwns, entriesOwn, frameLeads, framesLead};
+ghost use Rattle.audit_heap.specs.Heap.{headersIn, filledTo, pageFits, pagesFit, headersHeld, allHeaders, ticked, headAt, newestFits, oldestFits, entryOwns, entriesOwn, known, frameLeads, framesLead};
 
 // How many words the objects met on page j take, as far as n words of it.
-fn filled_to(k: Kinds, heap: &[u32], j: u32, n: u32) -> usize
-    ensures { λ r. ⌜ r ≡ filledTo k (now (heap .entry)) j n ⌝ }
+fn filled_to(declared: u32, sizes: &[u8], heap: &[u32], j: u32, n: u32) -> usize
+    ensures { λ r. ⌜ r ≡ filledTo declared (now (sizes .entry)) (now (heap .entry)) j n ⌝ }
 {
     let start = 64 * (j as usize);
     let end = start + (n as usize);
     let mut at = start;
     let mut i: u32 = 0;
     while i < 64 {
-        let s = objects::size_in(k, heap, at, end);
+        let object = objects::part_at(heap, at);
+        let s = objects::size_in(declared, sizes, object, end - at);
         if s == 0 {
             return at - start;
         }
@@ -27,28 +22,44 @@ fn filled_to(k: Kinds, heap: &[u32], j: u32, n: u32) -> usize
     at - start
 }
 
-fn page_fits(k: Kinds, heap: &[u32], g: Regions, p: Pages, j: u32) -> bool
-    ensures { λ r. ⌜ r ≡ pageFits k (now (heap .entry)) g p j ⌝ }
+fn page_fits<'a>(
+    declared: u32,
+    sizes: &[u8],
+    heap: &[u32],
+    names: &[u32],
+    owners: &'a [u8],
+    taken: &'a [u8],
+    j: u32,
+) -> bool
+    ensures { λ r. ⌜ r ≡ pageFits declared (now (sizes .entry)) (now (heap .entry)) (now (names .entry)) (now (owners .entry)) (now (taken .entry)) j ⌝ }
 {
-    let t = pages::owner_at(p, j);
+    let t = pages::owner_at(owners, j);
     if t == 0 {
         return true;
     }
-    if regions::name_of(g, t) == 0 {
+    if regions::name_of(names, t) == 0 {
         return false;
     }
-    let n = filled_to(k, heap, j, pages::taken_at(p, j));
-    n == (cells::byte(&p.taken, j as usize) as usize)
+    let n = filled_to(declared, sizes, heap, j, pages::taken_at(taken, j));
+    n == (cells::byte(taken, j as usize) as usize)
 }
 
 // Whether each page is free, or owned by an entry in use and filled from its start without gaps.
-pub fn pages_fit(k: Kinds, heap: &[u32], g: Regions, p: Pages) -> bool
-    ensures { λ r. ⌜ r ≡ pagesFit k (now (heap .entry)) g p ⌝ }
+pub fn pages_fit<'a>(
+    declared: u32,
+    sizes: &[u8],
+    heap: &[u32],
+    names: &[u32],
+    made: u32,
+    owners: &'a [u8],
+    taken: &'a [u8],
+) -> bool
+    ensures { λ r. ⌜ r ≡ pagesFit declared (now (sizes .entry)) (now (heap .entry)) (now (names .entry)) made (now (owners .entry)) (now (taken .entry)) ⌝ }
 {
-    let n = pages::page_count(p);
+    let n = pages::page_count(made);
     let mut j: u32 = 0;
     while j < n {
-        if !page_fits(k, heap, g, p, j) {
+        if !page_fits(declared, sizes, heap, names, owners, taken, j) {
             return false;
         }
         j += 1;
@@ -56,86 +67,129 @@ pub fn pages_fit(k: Kinds, heap: &[u32], g: Regions, p: Pages) -> bool
     true
 }
 
-// Whether a header is met at place q on page j, as far as n words of it.
-fn met(k: Kinds, heap: &[u32], j: u32, n: u32, q: u32) -> bool
-    ensures { λ r. ⌜ r ≡ among q (headersTo k (now (heap .entry)) j n) ⌝ }
+// The headers met on page j, as far as n words of it, are ticked.
+fn tick_page(declared: u32, sizes: &[u8], heap: &[u32], j: u32, n: u32, heads: &mut [u8])
+    ensures { λ _. ⌜ now (heads .exit) ≡ ticked (now (heads .entry)) (headersIn declared (now (sizes .entry)) (now (heap .entry)) j n) ⌝ }
 {
     let mut at = 64 * (j as usize);
     let end = at + (n as usize);
     let mut i: u32 = 0;
     while i < 64 {
-        let s = objects::size_in(k, heap, at, end);
+        let object = objects::part_at(heap, at);
+        let s = objects::size_in(declared, sizes, object, end - at);
         if s == 0 {
-            return false;
+            break;
         }
-        if at == (q as usize) {
-            return true;
-        }
+        cells::store_byte(heads, at, 1);
         at = at + 1 + (s as usize);
         i += 1;
     }
-    false
 }
 
-// Whether a header is met at place q, on a page that is not free.
-pub fn stands_at(k: Kinds, heap: &[u32], p: Pages, q: u32) -> bool
-    ensures { λ r. ⌜ r ≡ standsAt k (now (heap .entry)) p q ⌝ }
+// Those on page j, unless it is free.
+fn tick_held<'a>(
+    declared: u32,
+    sizes: &[u8],
+    heap: &[u32],
+    owners: &'a [u8],
+    taken: &'a [u8],
+    j: u32,
+    heads: &mut [u8],
+)
+    ensures { λ _. ⌜ now (heads .exit) ≡ ticked (now (heads .entry)) (headersHeld declared (now (sizes .entry)) (now (heap .entry)) (now (owners .entry)) (now (taken .entry)) j) ⌝ }
 {
-    let j = q / 64;
-    if pages::page_count(p) <= j {
-        return false;
+    if 0 < pages::owner_at(owners, j) {
+        tick_page(declared, sizes, heap, j, pages::taken_at(taken, j), heads);
     }
-    if pages::owner_at(p, j) == 0 {
-        return false;
-    }
-    met(k, heap, j, pages::taken_at(p, j), q)
 }
 
-fn newest_fits(g: Regions, p: Pages, i: u32) -> bool
-    ensures { λ r. ⌜ r ≡ newestFits g p i ⌝ }
+// Those on all pages that are not free.
+pub fn tick_headers<'a>(
+    declared: u32,
+    sizes: &[u8],
+    heap: &[u32],
+    made: u32,
+    owners: &'a [u8],
+    taken: &'a [u8],
+    heads: &mut [u8],
+)
+    ensures { λ _. ⌜ now (heads .exit) ≡ ticked (now (heads .entry)) (allHeaders declared (now (sizes .entry)) (now (heap .entry)) made (now (owners .entry)) (now (taken .entry))) ⌝ }
 {
-    let n = regions::newest_at(g, i);
+    let n = pages::page_count(made);
+    let mut i: u32 = 0;
+    while i < n {
+        tick_held(declared, sizes, heap, owners, taken, i, heads);
+        i += 1;
+    }
+}
+
+// Whether a header stands at place q.
+pub fn stands_at(heads: &[u8], q: u32) -> bool
+    ensures { λ r. ⌜ r ≡ headAt (now (heads .entry)) q ⌝ }
+{
+    cells::byte(heads, q as usize) == 1
+}
+
+fn newest_fits(newest: &[u16], made: u32, owners: &[u8], i: u32) -> bool
+    ensures { λ r. ⌜ r ≡ newestFits (now (newest .entry)) made (now (owners .entry)) i ⌝ }
+{
+    let n = regions::newest_at(newest, i);
     if n == 0 {
         return true;
     }
-    if pages::page_count(p) <= n - 1 {
+    if pages::page_count(made) <= n - 1 {
         return false;
     }
-    (pages::owner_at(p, n - 1) as usize) == (i as usize) + 1
+    (pages::owner_at(owners, n - 1) as usize) == (i as usize) + 1
 }
 
-fn oldest_fits(k: Kinds, heap: &[u32], g: Regions, p: Pages, i: u32) -> bool
-    ensures { λ r. ⌜ r ≡ oldestFits k (now (heap .entry)) g p i ⌝ }
+fn oldest_fits(heads: &[u8], oldest: &[u32], owners: &[u8], i: u32) -> bool
+    ensures { λ r. ⌜ r ≡ oldestFits (headAt (now (heads .entry))) (now (oldest .entry)) (now (owners .entry)) i ⌝ }
 {
-    let v = regions::oldest_at(g, i);
+    let v = regions::oldest_at(oldest, i);
     if v == 0 {
         return true;
     }
-    if !stands_at(k, heap, p, v - 1) {
+    if !stands_at(heads, v - 1) {
         return false;
     }
-    (pages::owner_of(&p.owners, v) as usize) == (i as usize) + 1
+    (pages::owner_of(owners, v) as usize) == (i as usize) + 1
 }
 
-fn entry_owns(k: Kinds, heap: &[u32], g: Regions, p: Pages, i: u32) -> bool
-    ensures { λ r. ⌜ r ≡ entryOwns k (now (heap .entry)) g p i ⌝ }
+fn entry_owns<'a>(
+    heads: &[u8],
+    names: &'a [u32],
+    newest: &'a [u16],
+    oldest: &'a [u32],
+    made: u32,
+    owners: &[u8],
+    i: u32,
+) -> bool
+    ensures { λ r. ⌜ r ≡ entryOwns (headAt (now (heads .entry))) (now (names .entry)) (now (newest .entry)) (now (oldest .entry)) made (now (owners .entry)) i ⌝ }
 {
-    if regions::name_at(g, i) == 0 {
+    if regions::name_at(names, i) == 0 {
         return true;
     }
-    if !newest_fits(g, p, i) {
+    if !newest_fits(newest, made, owners, i) {
         return false;
     }
-    oldest_fits(k, heap, g, p, i)
+    oldest_fits(heads, oldest, owners, i)
 }
 
 // Whether the newest page and the oldest object of each entry in use, if it has them, are its own.
-pub fn entries_own(k: Kinds, heap: &[u32], g: Regions, p: Pages) -> bool
-    ensures { λ r. ⌜ r ≡ entriesOwn k (now (heap .entry)) g p ⌝ }
+pub fn entries_own<'a>(
+    heads: &[u8],
+    names: &'a [u32],
+    newest: &'a [u16],
+    oldest: &'a [u32],
+    made: u32,
+    owners: &[u8],
+) -> bool
+    ensures { λ r. ⌜ r ≡ entriesOwn (headAt (now (heads .entry))) (now (names .entry)) (now (newest .entry)) (now (oldest .entry)) made (now (owners .entry)) ⌝ }
 {
     let mut i: u32 = 0;
     while i < 64 {
-        if !entry_owns(k, heap, g, p, i) {
+        if !entry_owns(heads, names, newest, oldest, made, owners, i) {
             return false;
         }
         i += 1;
@@ -143,22 +197,22 @@ pub fn entries_own(k: Kinds, heap: &[u32], g: Regions, p: Pages) -> bool
     true
 }
 
-fn known(k: Kinds, heap: &[u32], p: Pages, v: u32) -> bool
-    ensures { λ r. ⌜ r ≡ known k (now (heap .entry)) p v ⌝ }
+fn known(heads: &[u8], v: u32) -> bool
+    ensures { λ r. ⌜ r ≡ known (headAt (now (heads .entry))) v ⌝ }
 {
     if v == 0 {
         return true;
     }
-    stands_at(k, heap, p, v - 1)
+    stands_at(heads, v - 1)
 }
 
-fn frame_leads(k: Kinds, heap: &[u32], p: Pages, f: Frames, i: u32) -> bool
-    ensures { λ r. ⌜ r ≡ frameLeads k (now (heap .entry)) p f i ⌝ }
+fn frame_leads<'a>(heads: &[u8], widths: &'a [u8], slots: &'a [u32], i: u32) -> bool
+    ensures { λ r. ⌜ r ≡ frameLeads (headAt (now (heads .entry))) (now (widths .entry)) (now (slots .entry)) i ⌝ }
 {
-    let n = frames::width_at(f, i);
+    let n = frames::width_at(widths, i);
     let mut s: u32 = 0;
     while s < n {
-        if !known(k, heap, p, frames::slot_at(f, i, s)) {
+        if !known(heads, frames::slot_at(slots, i, s)) {
             return false;
         }
         s += 1;
@@ -167,13 +221,13 @@ fn frame_leads(k: Kinds, heap: &[u32], p: Pages, f: Frames, i: u32) -> bool
 }
 
 // Whether every slot is null or leads to an object.
-pub fn frames_lead(k: Kinds, heap: &[u32], p: Pages, f: Frames) -> bool
-    ensures { λ r. ⌜ r ≡ framesLead k (now (heap .entry)) p f ⌝ }
+pub fn frames_lead<'a>(heads: &[u8], standing: u32, widths: &'a [u8], slots: &'a [u32]) -> bool
+    ensures { λ r. ⌜ r ≡ framesLead (headAt (now (heads .entry))) standing (now (widths .entry)) (now (slots .entry)) ⌝ }
 {
-    let n = frames::frame_count(f);
+    let n = frames::frame_count(standing);
     let mut i: u32 = 0;
     while i < n {
-        if !frame_leads(k, heap, p, f, i) {
+        if !frame_leads(heads, widths, slots, i) {
             return false;
         }
         i += 1;

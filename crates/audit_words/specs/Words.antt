@@ -1,4 +1,4 @@
--- The audit's tests of pointer words, as code runs them (document 01, Audit).
+-- The audit's tests of pointer words, as code runs them (document 01, Audit), over the numbers and lists that they read, and over a test `stands` of the place of a header.
 -- Assumes nothing.
 use mathlib.Core.Bool.{Bool, _&&_, _||_}
 use mathlib.Core.List.{List}
@@ -7,33 +7,36 @@ use lib.Dec.{eqb}
 use lib.ListN.{getD}
 use Rattle.lists.specs.Lists.{every, upTo}
 use Rattle.model.specs.Model.{rule}
-use Rattle.kinds.specs.declared.Kinds.{Kinds}
-use Rattle.kinds.specs.Kinds.{sizeOf, markAt}
-use Rattle.regions.specs.declared.Regions.{Regions}
-use Rattle.regions.specs.Regions.{nameOf, parentAt}
-use Rattle.pages.specs.declared.Pages.{Pages}
-use Rattle.pages.specs.Pages.{pageCount, ownerAt, ownerOf}
-use Rattle.objects.specs.Objects.{headersOn}
-use Rattle.audit_heap.specs.Heap.{standsAt}
+use Rattle.kinds.specs.Kinds.{kindsOf, sizeIn, markIn}
+use Rattle.regions.specs.Regions.{nameIn}
+use Rattle.pages.specs.Pages.{pageCountIn, takenIn, ownerIn}
+use Rattle.objects.specs.Objects.{headersTo}
+use Rattle.objects.specs.Parts.{headerIn, wordIn}
 
--- a word with mark m that holds x, in an object of the region named own, right below the region named above: data, null, or leading to an object that the mark allows
-unfoldable pub wordHolds : Kinds → List ℕ → Regions → Pages → ℕ → ℕ → ℕ → ℕ → Bool
-wordHolds k heap g p own above m x = eqb m 0 || (eqb x 0 || (standsAt k heap p (x - 1) && rule m (nameOf g (ownerOf p x)) own above))
+module _ (stands : ℕ → Bool) (names owners : List ℕ) where
+  -- a word with mark m that holds x, in an object of the region named own, right below the region named above: data, null, or leading to an object that the mark allows
+  unfoldable pub wordHolds : ℕ → ℕ → ℕ → ℕ → Bool
+  wordHolds own above m x = eqb m 0 || (eqb x 0 || (stands (x - 1) && rule m (nameIn names (ownerIn owners x)) own above))
 
--- the first n words ws of an object of that kind; the object whose header stands at place q
-unfoldable pub wordsHold : Kinds → List ℕ → Regions → Pages → ℕ → ℕ → ℕ → List ℕ → ℕ → Bool
-wordsHold k heap g p own above kind ws n = every (λ w. wordHolds k heap g p own above (markAt k kind w) (getD ws w 0)) (upTo n)
+  -- the first n words of the object that a part of the heap begins with; the object whose header stands at place q
+  unfoldable pub wordsHold : List ℕ → List ℕ → ℕ → ℕ → ℕ → Bool
+  wordsHold marks object n own above = every (λ w. wordHolds own above (markIn marks (headerIn object) w) (wordIn object w)) (upTo n)
 
-unfoldable pub objectHolds : Kinds → List ℕ → Regions → Pages → ℕ → ℕ → ℕ → Bool
-objectHolds k heap g p own above q =
-    every (λ w. wordHolds k heap g p own above (markAt k (getD heap q 0) w) (getD heap (q + 1 + w) 0)) (upTo (sizeOf k (getD heap q 0)))
+  module _ (declared : ℕ) (sizes marks heap : List ℕ) where
+    unfoldable pub objectHolds : ℕ → ℕ → ℕ → Bool
+    objectHolds own above q =
+        let k = getD heap q 0 in
+        every (λ w. wordHolds own above (markIn marks k w) (getD heap (q + 1 + w) 0)) (upTo (sizeIn declared sizes k))
 
--- the objects on page j, if it is not free; on all pages
-unfoldable pub objectsHold : Kinds → List ℕ → Regions → Pages → ℕ → ℕ → ℕ → Bool
-objectsHold k heap g p own above j = every (objectHolds k heap g p own above) (headersOn k heap p j)
+    -- the objects on page j, as far as n words of it
+    unfoldable pub objectsHold : ℕ → ℕ → ℕ → ℕ → Bool
+    objectsHold own above j n = every (objectHolds own above) (headersTo (kindsOf declared sizes marks) heap j n)
 
-unfoldable pub pageHolds : Kinds → List ℕ → Regions → Pages → ℕ → Bool
-pageHolds k heap g p j = let t = ownerAt p j in eqb t 0 || objectsHold k heap g p (nameOf g t) (nameOf g (parentAt g (t - 1))) j
+    -- those on page j, if it is not free; on all pages
+    unfoldable pub pageHolds : List ℕ → List ℕ → ℕ → Bool
+    pageHolds parents taken j =
+        let t = getD owners j 0 in
+        eqb t 0 || objectsHold (nameIn names t) (nameIn names (getD parents (t - 1) 0)) j (takenIn taken j)
 
-unfoldable pub pagesHold : Kinds → List ℕ → Regions → Pages → Bool
-pagesHold k heap g p = every (pageHolds k heap g p) (upTo (pageCount p))
+    unfoldable pub pagesHold : List ℕ → ℕ → List ℕ → Bool
+    pagesHold parents made taken = every (pageHolds parents taken) (upTo (pageCountIn made))

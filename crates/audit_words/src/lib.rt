@@ -1,22 +1,19 @@
-// The audit's tests of pointer words.
-use kinds::Kinds;
-use pages::Pages;
-use regions::Regions;
+// The audit's tests of pointer words. Pointers are looked up among the headers that audit_heap ticked.
 ghost use mathlib.Core.Path.{_≡_};
+ghost use Rattle.audit_heap.specs.Heap.{headAt};
 ghost use Rattle.audit_words.specs.Words.{wordHolds, wordsHold, objectsHold, pageHolds, pagesHold};
 
 // Whether a word with mark m that holds x is data, null, or leads to an object that the mark allows.
 fn word_holds(
-    k: Kinds,
-    heap: &[u32],
-    g: Regions,
-    p: Pages,
+    heads: &[u8],
+    names: &[u32],
+    owners: &[u8],
     own: u32,
     above: u32,
     m: u32,
     x: u32,
 ) -> bool
-    ensures { λ r. ⌜ r ≡ wordHolds k (now (heap .entry)) g p own above m x ⌝ }
+    ensures { λ r. ⌜ r ≡ wordHolds (headAt (now (heads .entry))) (now (names .entry)) (now (owners .entry)) own above m x ⌝ }
 {
     if m == 0 {
         return true;
@@ -24,31 +21,38 @@ fn word_holds(
     if x == 0 {
         return true;
     }
-    if !audit_heap::stands_at(k, heap, p, x - 1) {
+    if !audit_heap::stands_at(heads, x - 1) {
         return false;
     }
-    let t = pages::owner_of(&p.owners, x);
-    kinds::allows(m, regions::name_of(g, t), own, above)
+    let t = pages::owner_of(owners, x);
+    kinds::allows(m, regions::name_of(names, t), own, above)
 }
 
-// The same of the n words of an object of that kind.
+// The same of an object's first n words.
 fn words_hold(
-    k: Kinds,
-    heap: &[u32],
-    g: Regions,
-    p: Pages,
+    marks: &[u8],
+    object: &[u32],
+    n: u32,
+    heads: &[u8],
+    names: &[u32],
+    owners: &[u8],
     own: u32,
     above: u32,
-    kind: u32,
-    words: &[u32],
-    n: u32,
 ) -> bool
-    ensures { λ r. ⌜ r ≡ wordsHold k (now (heap .entry)) g p own above kind (now (words .entry)) n ⌝ }
+    ensures { λ r. ⌜ r ≡ wordsHold (headAt (now (heads .entry))) (now (names .entry)) (now (owners .entry)) (now (marks .entry)) (now (object .entry)) n own above ⌝ }
 {
     let mut w: u32 = 0;
     while w < n {
-        let m = kinds::mark_at(k, kind, w);
-        if !word_holds(k, heap, g, p, own, above, m, cells::word(words, w as usize)) {
+        let m = objects::mark_of(marks, object, w);
+        if !word_holds(
+            heads,
+            names,
+            owners,
+            own,
+            above,
+            m,
+            objects::word_at(object, w),
+        ) {
             return false;
         }
         w += 1;
@@ -56,21 +60,32 @@ fn words_hold(
     true
 }
 
-// The same of the objects on page j.
-fn objects_hold(k: Kinds, heap: &[u32], g: Regions, p: Pages, own: u32, above: u32, j: u32) -> bool
-    ensures { λ r. ⌜ r ≡ objectsHold k (now (heap .entry)) g p own above j ⌝ }
+// The same of the objects on page j, of which n words are taken.
+fn objects_hold<'a>(
+    declared: u32,
+    sizes: &'a [u8],
+    marks: &'a [u8],
+    heap: &[u32],
+    heads: &[u8],
+    names: &[u32],
+    owners: &[u8],
+    own: u32,
+    above: u32,
+    j: u32,
+    n: u32,
+) -> bool
+    ensures { λ r. ⌜ r ≡ objectsHold (headAt (now (heads .entry))) (now (names .entry)) (now (owners .entry)) declared (now (sizes .entry)) (now (marks .entry)) (now (heap .entry)) own above j n ⌝ }
 {
     let mut at = 64 * (j as usize);
-    let end = at + (pages::taken_at(p, j) as usize);
+    let end = at + (n as usize);
     let mut i: u32 = 0;
     while i < 64 {
-        let s = objects::size_in(k, heap, at, end);
+        let object = objects::part_at(heap, at);
+        let s = objects::size_in(declared, sizes, object, end - at);
         if s == 0 {
             return true;
         }
-        let kind = cells::word(heap, at);
-        let object = objects::words(heap, at + 1, s as usize);
-        if !words_hold(k, heap, g, p, own, above, kind, object, s) {
+        if !words_hold(marks, object, s, heads, names, owners, own, above) {
             return false;
         }
         at = at + 1 + (s as usize);
@@ -79,26 +94,72 @@ fn objects_hold(k: Kinds, heap: &[u32], g: Regions, p: Pages, own: u32, above: u
     true
 }
 
-fn page_holds(k: Kinds, heap: &[u32], g: Regions, p: Pages, j: u32) -> bool
-    ensures { λ r. ⌜ r ≡ pageHolds k (now (heap .entry)) g p j ⌝ }
+fn page_holds<'a, 'b, 'c>(
+    declared: u32,
+    sizes: &'a [u8],
+    marks: &'a [u8],
+    heap: &[u32],
+    heads: &[u8],
+    names: &'b [u32],
+    parents: &'b [u8],
+    owners: &'c [u8],
+    taken: &'c [u8],
+    j: u32,
+) -> bool
+    ensures { λ r. ⌜ r ≡ pageHolds (headAt (now (heads .entry))) (now (names .entry)) (now (owners .entry)) declared (now (sizes .entry)) (now (marks .entry)) (now (heap .entry)) (now (parents .entry)) (now (taken .entry)) j ⌝ }
 {
-    let t = pages::owner_at(p, j);
+    let t = pages::owner_at(owners, j);
     if t == 0 {
         return true;
     }
-    let own = regions::name_of(g, t);
-    let above = regions::name_of(g, regions::parent_at(g, t - 1));
-    objects_hold(k, heap, g, p, own, above, j)
+    let own = regions::name_of(names, t);
+    let above = regions::name_of(names, regions::parent_at(parents, t - 1));
+    let n = pages::taken_at(taken, j);
+    objects_hold(
+        declared,
+        sizes,
+        marks,
+        heap,
+        heads,
+        names,
+        owners,
+        own,
+        above,
+        j,
+        n,
+    )
 }
 
 // Whether every pointer word is null, or leads to an object that its mark allows.
-pub fn pages_hold(k: Kinds, heap: &[u32], g: Regions, p: Pages) -> bool
-    ensures { λ r. ⌜ r ≡ pagesHold k (now (heap .entry)) g p ⌝ }
+pub fn pages_hold<'a, 'b, 'c>(
+    declared: u32,
+    sizes: &'a [u8],
+    marks: &'a [u8],
+    heap: &[u32],
+    heads: &[u8],
+    names: &'b [u32],
+    parents: &'b [u8],
+    made: u32,
+    owners: &'c [u8],
+    taken: &'c [u8],
+) -> bool
+    ensures { λ r. ⌜ r ≡ pagesHold (headAt (now (heads .entry))) (now (names .entry)) (now (owners .entry)) declared (now (sizes .entry)) (now (marks .entry)) (now (heap .entry)) (now (parents .entry)) made (now (taken .entry)) ⌝ }
 {
-    let n = pages::page_count(p);
+    let n = pages::page_count(made);
     let mut j: u32 = 0;
     while j < n {
-        if !page_holds(k, heap, g, p, j) {
+        if !page_holds(
+            declared,
+            sizes,
+            marks,
+            heap,
+            heads,
+            names,
+            parents,
+            owners,
+            taken,
+            j,
+        ) {
             return false;
         }
         j += 1;

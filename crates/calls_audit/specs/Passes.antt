@@ -4,46 +4,66 @@ use mathlib.Core.Bool.{Bool, _&&_, _||_}
 use mathlib.Core.List.{List, [], _++_}
 use Prim.Native.Nat.{ℕ}
 use lib.Dec.{eqb}
-use lib.ListN.{length, getD}
+use lib.ListN.{length, getD, replicate}
 use Rattle.lists.specs.Lists.{pick, every, joined, upTo}
 use Rattle.kinds.specs.declared.Kinds.{Kinds}
-use Rattle.regions.specs.declared.Regions.{Regions}
-use Rattle.regions.specs.Regions.{nameAt, moved}
-use Rattle.pages.specs.declared.Pages.{Pages}
-use Rattle.pages.specs.Pages.{pageCount, ownerAt}
-use Rattle.objects.specs.Objects.{freeWordsOn, outOf}
+use Rattle.kinds.specs.Kinds.{kindsOf}
+use Rattle.regions.specs.Laws.Steps.{leavings}
+use Rattle.pages.specs.Pages.{pageCountIn, takenIn}
+use Rattle.objects.specs.Objects.{headersTo, freeWords, outOf}
 use Rattle.state.specs.declared.State.{State}
-use Rattle.checks.specs.Checks.{slotTags}
-use Rattle.audit_state.specs.Fits.{stateFits}
-use Rattle.audit_heap.specs.Heap.{pagesFit, entriesOwn, framesLead}
+use Rattle.outcomes.specs.Store.{targetsIn}
+use Rattle.audit_state.specs.Fits.{stateFitsIn}
+use Rattle.audit_heap.specs.Heap.{pagesFit, allHeaders, ticked, headAt, entriesOwn, framesLead}
 use Rattle.audit_words.specs.Words.{pagesHold}
 
+-- ---- stored counts
+
 -- the tags of the regions whose outside pointers stand in words of page j
-unfoldable pub wordTags : Kinds → List ℕ → Pages → ℕ → List ℕ
-wordTags k heap p j = pick (eqb (ownerAt p j) 0) [] (outOf (p .owners) (ownerAt p j) (freeWordsOn k heap p j))
+unfoldable pub wordTags : Kinds → List ℕ → List ℕ → List ℕ → ℕ → List ℕ
+wordTags k heap owners taken j =
+    let t = getD owners j 0 in
+    pick (eqb t 0) [] (outOf owners t (joined (freeWords k heap) (headersTo k heap j (takenIn taken j))))
 
 -- what has to be in the stored counts: words marked 1, and slots of the lowest m frames
-unfoldable pub countedTags : State → List ℕ → List ℕ
-countedTags s heap =
-    joined (wordTags (s .kinds) heap (s .pages)) (upTo (pageCount (s .pages))) ++ joined (slotTags (s .frames) (s .pages .owners)) (upTo (s .frames .counted))
+unfoldable pub countedTags : Kinds → List ℕ → ℕ → List ℕ → List ℕ → ℕ → List ℕ → List ℕ → List ℕ
+countedTags k heap made owners taken counted widths slots = joined (wordTags k heap owners taken) (upTo (pageCountIn made)) ++ joined (targetsIn widths slots owners) (upTo counted)
 
 -- entry i is not in use, or its count is 0; so of all entries
-unfoldable pub isZero : Regions → List ℕ → ℕ → Bool
-isZero g cs i = eqb (nameAt g i) 0 || eqb (getD cs i 0) 0
+unfoldable pub isZero : List ℕ → List ℕ → ℕ → Bool
+isZero names cs i = eqb (getD names i 0) 0 || eqb (getD cs i 0) 0
 
-unfoldable pub allZero : Regions → List ℕ → Bool
-allZero g cs = every (isZero g cs) (upTo 64)
+unfoldable pub allZero : List ℕ → List ℕ → Bool
+allZero names cs = every (isZero names cs) (upTo 64)
 
--- nothing stays in the stored counts once all that has to be there has left them
-unfoldable pub countsFit : State → List ℕ → Bool
-countsFit s heap = allZero (s .regions) (moved (s .regions .counts) [] (countedTags s heap))
+-- nothing stays in the stored counts once all that has to be there has left them, one pointer after the other
+unfoldable pub countsFit : List ℕ → List ℕ → Kinds → List ℕ → ℕ → List ℕ → List ℕ → ℕ → List ℕ → List ℕ → Bool
+countsFit names cs k heap made owners taken counted widths slots = allZero names (leavings cs (countedTags k heap made owners taken counted widths slots))
 
--- all tests, each after those that it relies on
+-- ---- all tests
+
+-- those of the heap; headers are ticked in the list `heads`
+unfoldable pub heapFits : List ℕ → ℕ → List ℕ → List ℕ → List ℕ → List ℕ → List ℕ → List ℕ → List ℕ → ℕ → List ℕ → List ℕ → ℕ → List ℕ → List ℕ → Bool
+heapFits heads declared sizes marks heap names parents newest oldest made owners taken standing widths slots =
+    let stands = headAt (ticked heads (allHeaders declared sizes heap made owners taken)) in
+    pagesFit declared sizes heap names made owners taken
+    && entriesOwn stands names newest oldest made owners
+    && framesLead stands standing widths slots
+    && pagesHold stands names owners declared sizes marks heap parents made taken
+
+-- each after those that it relies on
+unfoldable pub passesIn : List ℕ → List ℕ → List ℕ → ℕ → List ℕ → List ℕ → ℕ → ℕ → List ℕ → List ℕ → ℕ → List ℕ → List ℕ → List ℕ → List ℕ → List ℕ → ℕ → List ℕ → List ℕ → Bool
+passesIn heads cs heap declared sizes marks standing counted widths slots given names parents levels newest oldest made owners taken =
+    stateFitsIn made (length heap) declared sizes marks standing counted widths given names parents levels
+    && heapFits heads declared sizes marks heap names parents newest oldest made owners taken standing widths slots
+    && countsFit names cs (kindsOf declared sizes marks) heap made owners taken counted widths slots
+
+-- of a memory; headers are ticked among as many zeros as a heap has words at most
 unfoldable pub passes : State → List ℕ → Bool
 passes s heap =
-    stateFits s (length heap)
-    && pagesFit (s .kinds) heap (s .regions) (s .pages)
-    && entriesOwn (s .kinds) heap (s .regions) (s .pages)
-    && framesLead (s .kinds) heap (s .pages) (s .frames)
-    && pagesHold (s .kinds) heap (s .regions) (s .pages)
-    && countsFit s heap
+    let f = s .frames in
+    let k = s .kinds in
+    let g = s .regions in
+    let p = s .pages in
+    passesIn (replicate 16384 0) (g .counts) heap (k .declared) (k .sizes) (k .marks) (f .standing) (f .counted) (f .widths) (f .slots)
+    (g .given) (g .names) (g .parents) (g .levels) (g .newest) (g .oldest) (p .made) (p .owners) (p .taken)

@@ -3,23 +3,24 @@ use native.Mathlib.Omega.{arith}
 use borrow.Author.Needs.{needs}
 use borrow.Author.Tests.{not-true, not-false}
 use Rattle.lists.specs.Laws.Every.{Passed, passed-none, passed-more, passed-not, passed-all}
-use Rattle.audit_heap.specs.Heap.{entryOwns, entriesOwn}
+use Rattle.audit_heap.specs.Heap.{headAt, entryOwns, entriesOwn}
 use Rattle.audit_heap.proofs.entries_own.Statement.{statement}
 use Rattle.audit_heap.proofs.entries_own.Tie as tie
 
 -- the entries passed fit
 abbrev Inv-loop : tie.InvT-loop
-Inv-loop k heap g p i₀ i = Passed (entryOwns k heap g p) 64 i
+Inv-loop heads names newest oldest made owners i₀ i = Passed (entryOwns (headAt heads) names newest oldest made owners) 64 i
 
 abbrev μ-loop : tie.MeasureT-loop
-μ-loop k heap g p i₀ i = 64 - i
+μ-loop heads names newest oldest made owners i₀ i = 64 - i
 
 returns : tie.Need-returns Inv-loop μ-loop
 unfolding entriesOwn
 returns c =
     let l = c .before .before .before in
-    let a = l .before .before .args in
-    passed-not (entryOwns (a .k) (a .heap .now) (a .g) (a .p)) 64 (l .loop .i) (omega arith) (rw (← c .before .entry-owns .ensures) (not-true (c .before .entry-owns .result) (c .if1 .taken)))
+    let a = l .before .before .before .before .before .before .args in
+    passed-not (entryOwns (headAt (a .heads .now)) (a .names .now) (a .newest .now) (a .oldest .now) (a .made) (a .owners .now)) 64 (l .loop .i) (omega arith)
+    (rw (← c .before .entry-owns .ensures) (not-true (c .before .entry-owns .result) (c .if1 .taken)))
 
 loop-again : tie.Need-loop-again Inv-loop μ-loop
 loop-again c =
@@ -28,7 +29,10 @@ loop-again c =
 
 returns-2 : tie.Need-returns-2 Inv-loop μ-loop
 unfolding entriesOwn
-returns-2 c = let l = c .before in let a = l .before .before .args in passed-all (entryOwns (a .k) (a .heap .now) (a .g) (a .p)) 64 (l .loop .i) (l .loop .inv) (omega arith)
+returns-2 c =
+    let l = c .before in
+    let a = l .before .before .before .before .before .before .args in
+    passed-all (entryOwns (headAt (a .heads .now)) (a .names .now) (a .newest .now) (a .oldest .now) (a .made) (a .owners .now)) 64 (l .loop .i) (l .loop .inv) (omega arith)
 
 pub entries-own-spec : {M : Type 1} → statement M
 entries-own-spec =

@@ -4,17 +4,17 @@ use native.Mathlib.Omega.{arith}
 use borrow.Author.Needs.{needs}
 use borrow.Author.Tests.{not-true, not-false}
 use Rattle.lists.specs.Laws.Every.{Passed, passed-none, passed-more, passed-not, passed-all}
-use Rattle.frames.specs.Frames.{widthAt, slotAt}
-use Rattle.audit_heap.specs.Heap.{known, frameLeads}
+use Rattle.frames.specs.Frames.{widthIn, slotIn}
+use Rattle.audit_heap.specs.Heap.{headAt, known, frameLeads}
 use Rattle.audit_heap.proofs.frame_leads.Statement.{statement}
 use Rattle.audit_heap.proofs.frame_leads.Tie as tie
 
 -- the slots passed lead to objects
 abbrev Inv-loop : tie.InvT-loop
-Inv-loop k heap p f i n s₀ s = (n ≡ widthAt f i) × Passed (λ s. known k heap p (slotAt f i s)) (widthAt f i) s
+Inv-loop heads widths slots i n s₀ s = (n ≡ widthIn widths i) × Passed (λ s. known (headAt heads) (slotIn slots i s)) (widthIn widths i) s
 
 abbrev μ-loop : tie.MeasureT-loop
-μ-loop k heap p f i n s₀ s = n - s
+μ-loop heads widths slots i n s₀ s = n - s
 
 -- none is passed at first
 loop-holds : tie.Need-loop-holds Inv-loop μ-loop
@@ -24,8 +24,8 @@ returns : tie.Need-returns Inv-loop μ-loop
 unfolding frameLeads
 returns c =
     let l = c .before .before .before .before in
-    let a = l .before .before .before .args in
-    passed-not _ (widthAt (a .f) (a .i)) (l .loop .s) (omega arith) (rw (← c .before .before .slot-at .ensures, ← c .before .known .ensures) (not-true (c .before .known .result) (c .if1 .taken)))
+    let a = l .before .before .before .before .before .args in
+    passed-not _ (widthIn (a .widths .now) (a .i)) (l .loop .s) (omega arith) (rw (← c .before .before .slot-at .ensures, ← c .before .known .ensures) (not-true (c .before .known .result) (c .if1 .taken)))
 
 loop-again : tie.Need-loop-again Inv-loop μ-loop
 loop-again c =
@@ -34,7 +34,10 @@ loop-again c =
 
 returns-2 : tie.Need-returns-2 Inv-loop μ-loop
 unfolding frameLeads
-returns-2 c = let l = c .before in let a = l .before .before .before .args in passed-all _ (widthAt (a .f) (a .i)) (l .loop .s) (l .loop .inv .1) (omega arith)
+returns-2 c =
+    let l = c .before in
+    let a = l .before .before .before .before .before .args in
+    passed-all _ (widthIn (a .widths .now) (a .i)) (l .loop .s) (l .loop .inv .1) (omega arith)
 
 pub frame-leads-spec : {M : Type 1} → statement M
 frame-leads-spec =

@@ -4,24 +4,24 @@ use native.Mathlib.Omega.{arith}
 use borrow.Author.Needs.{needs}
 use borrow.Author.Tests.{not-true, not-false}
 use Rattle.lists.specs.Laws.Every.{Passed, passed-none, passed-more, passed-not, passed-all}
-use Rattle.frames.specs.Frames.{frameCount}
-use Rattle.audit_heap.specs.Heap.{frameLeads, framesLead}
+use Rattle.frames.specs.Frames.{frameCountIn}
+use Rattle.audit_heap.specs.Heap.{headAt, frameLeads, framesLead}
 use Rattle.audit_heap.proofs.frames_lead.Statement.{statement}
 use Rattle.audit_heap.proofs.frames_lead.Tie as tie
 
 -- the slots of the frames passed lead to objects
 abbrev Inv-loop : tie.InvT-loop
-Inv-loop k heap p f n i₀ i = (n ≡ frameCount f) × Passed (frameLeads k heap p f) (frameCount f) i
+Inv-loop heads standing widths slots n i₀ i = (n ≡ frameCountIn standing) × Passed (frameLeads (headAt heads) widths slots) (frameCountIn standing) i
 
 abbrev μ-loop : tie.MeasureT-loop
-μ-loop k heap p f n i₀ i = n - i
+μ-loop heads standing widths slots n i₀ i = n - i
 
 returns : tie.Need-returns Inv-loop μ-loop
 unfolding framesLead
 returns c =
     let l = c .before .before .before in
-    let a = l .before .before .before .args in
-    passed-not _ (frameCount (a .f)) (l .loop .i) (omega arith) (rw (← c .before .frame-leads .ensures) (not-true (c .before .frame-leads .result) (c .if1 .taken)))
+    let a = l .before .before .before .before .before .args in
+    passed-not _ (frameCountIn (a .standing)) (l .loop .i) (omega arith) (rw (← c .before .frame-leads .ensures) (not-true (c .before .frame-leads .result) (c .if1 .taken)))
 
 loop-again : tie.Need-loop-again Inv-loop μ-loop
 loop-again c =
@@ -30,7 +30,7 @@ loop-again c =
 
 returns-2 : tie.Need-returns-2 Inv-loop μ-loop
 unfolding framesLead
-returns-2 c = let l = c .before in let a = l .before .before .before .args in passed-all _ (frameCount (a .f)) (l .loop .i) (l .loop .inv .1) (omega arith)
+returns-2 c = let l = c .before in let a = l .before .before .before .before .before .args in passed-all _ (frameCountIn (a .standing)) (l .loop .i) (l .loop .inv .1) (omega arith)
 
 pub frames-lead-spec : {M : Type 1} → statement M
 frames-lead-spec =

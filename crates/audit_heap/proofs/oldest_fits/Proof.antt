@@ -2,13 +2,12 @@ use mathlib.Core.Path.{_≡_, sym}
 use Prim.Native.Nat.{_-_}
 use borrow.Author.Needs.{needs}
 use borrow.Author.Tests.{eq-eqb, ne-eqb, not-true, not-false}
-use Rattle.pages.specs.Pages.{ownerOf}
-use Rattle.audit_heap.specs.Heap.{standsAt, oldestFits}
+use Rattle.audit_heap.specs.Heap.{headAt, oldestFits}
 use Rattle.audit_heap.proofs.oldest_fits.Statement.{statement}
 use Rattle.audit_heap.proofs.oldest_fits.Tie as tie
 
 -- the test of the place that the pointer leads to
-stands : (c : tie.After-stands-at) → let v = c .before .before in let a = v .before .before .args in standsAt (a .k) (a .heap .now) (a .t4) (v .oldest-at .result - 1) ≡ c .stands-at .result
+stands : (c : tie.After-stands-at) → let v = c .before .before in let a = v .before .before .before .before .args in headAt (a .heads .now) (v .oldest-at .result - 1) ≡ c .stands-at .result
 stands c = sym (c .stands-at .ensures)
 
 returns : tie.Need-returns
@@ -22,9 +21,9 @@ returns-2 c =
     rw (← v .before .oldest-at .ensures, stands (c .before)) (simp (ne-eqb _ _ (v .if1 .left), not-true (c .before .stands-at .result) (c .if2 .taken)))
 
 returns-3 : tie.Need-returns-3
-unfolding oldestFits ownerOf
+unfolding oldestFits
 returns-3 c =
-    let m = c .before .before .before .before in
+    let m = c .before in
     let v = m .before .before in
     rw (← v .before .oldest-at .ensures, stands (m .before), ← c .owner-of .ensures) (simp (ne-eqb _ _ (v .if1 .left), not-false (m .before .stands-at .result) (m .if2 .left)))
 

@@ -26,7 +26,7 @@ returns-2 c =
 returns-3 : tie.Need-returns-3
 unfolding pageFits
 returns-3 c =
-    let f = c .before .before .before .before in
+    let f = c .before in
     let n = f .before .before in
     let t = n .before .before in
     rw (← t .before .owner-at .ensures, ← n .before .name-of .ensures, ← f .before .taken-at .ensures, ← f .filled-to .ensures, ← c .byte .ensures) (simp (ne-eqb _ _ (held t), ne-eqb _ _ (lives n)))

@@ -4,17 +4,17 @@ use native.Mathlib.Omega.{arith}
 use borrow.Author.Needs.{needs}
 use borrow.Author.Tests.{not-true, not-false}
 use Rattle.lists.specs.Laws.Every.{Passed, passed-none, passed-more, passed-not, passed-all}
-use Rattle.pages.specs.Pages.{pageCount}
+use Rattle.pages.specs.Pages.{pageCountIn}
 use Rattle.audit_heap.specs.Heap.{pageFits, pagesFit}
 use Rattle.audit_heap.proofs.pages_fit.Statement.{statement}
 use Rattle.audit_heap.proofs.pages_fit.Tie as tie
 
 -- the pages passed fit
 abbrev Inv-loop : tie.InvT-loop
-Inv-loop k heap g p n j₀ j = (n ≡ pageCount p) × Passed (pageFits k heap g p) (pageCount p) j
+Inv-loop declared sizes heap names made owners taken n j₀ j = (n ≡ pageCountIn made) × Passed (pageFits declared sizes heap names owners taken) (pageCountIn made) j
 
 abbrev μ-loop : tie.MeasureT-loop
-μ-loop k heap g p n j₀ j = n - j
+μ-loop declared sizes heap names made owners taken n j₀ j = n - j
 
 -- none is passed at first
 loop-holds : tie.Need-loop-holds Inv-loop μ-loop
@@ -24,8 +24,8 @@ returns : tie.Need-returns Inv-loop μ-loop
 unfolding pagesFit
 returns c =
     let l = c .before .before .before in
-    let a = l .before .before .before .args in
-    passed-not _ (pageCount (a .p)) (l .loop .j) (omega arith) (rw (← c .before .page-fits .ensures) (not-true (c .before .page-fits .result) (c .if1 .taken)))
+    let a = l .before .before .before .before .before .before .before .args in
+    passed-not _ (pageCountIn (a .made)) (l .loop .j) (omega arith) (rw (← c .before .page-fits .ensures) (not-true (c .before .page-fits .result) (c .if1 .taken)))
 
 loop-again : tie.Need-loop-again Inv-loop μ-loop
 loop-again c =
@@ -34,7 +34,7 @@ loop-again c =
 
 returns-2 : tie.Need-returns-2 Inv-loop μ-loop
 unfolding pagesFit
-returns-2 c = let l = c .before in let a = l .before .before .before .args in passed-all _ (pageCount (a .p)) (l .loop .j) (l .loop .inv .1) (omega arith)
+returns-2 c = let l = c .before in let a = l .before .before .before .before .before .before .before .args in passed-all _ (pageCountIn (a .made)) (l .loop .j) (l .loop .inv .1) (omega arith)
 
 pub pages-fit-spec : {M : Type 1} → statement M
 pages-fit-spec =

@@ -4,24 +4,26 @@ use native.Mathlib.Omega.{arith}
 use borrow.Author.Needs.{needs}
 use borrow.Author.Tests.{not-true, not-false}
 use Rattle.lists.specs.Laws.Every.{Passed, passed-none, passed-more, passed-not, passed-all}
-use Rattle.pages.specs.Pages.{pageCount}
+use Rattle.pages.specs.Pages.{pageCountIn}
+use Rattle.audit_heap.specs.Heap.{headAt}
 use Rattle.audit_words.specs.Words.{pageHolds, pagesHold}
 use Rattle.audit_words.proofs.pages_hold.Statement.{statement}
 use Rattle.audit_words.proofs.pages_hold.Tie as tie
 
 -- the objects of the pages passed hold
 abbrev Inv-loop : tie.InvT-loop
-Inv-loop k heap g p n j₀ j = (n ≡ pageCount p) × Passed (pageHolds k heap g p) (pageCount p) j
+Inv-loop declared sizes marks heap heads names parents made owners taken n j₀ j =
+    (n ≡ pageCountIn made) × Passed (pageHolds (headAt heads) names owners declared sizes marks heap parents taken) (pageCountIn made) j
 
 abbrev μ-loop : tie.MeasureT-loop
-μ-loop k heap g p n j₀ j = n - j
+μ-loop declared sizes marks heap heads names parents made owners taken n j₀ j = n - j
 
 returns : tie.Need-returns Inv-loop μ-loop
 unfolding pagesHold
 returns c =
     let l = c .before .before .before in
-    let a = l .before .before .before .args in
-    passed-not _ (pageCount (a .p)) (l .loop .j) (omega arith) (rw (← c .before .page-holds .ensures) (not-true (c .before .page-holds .result) (c .if1 .taken)))
+    let a = l .before .before .before .before .before .before .before .before .before .before .args in
+    passed-not _ (pageCountIn (a .made)) (l .loop .j) (omega arith) (rw (← c .before .page-holds .ensures) (not-true (c .before .page-holds .result) (c .if1 .taken)))
 
 loop-again : tie.Need-loop-again Inv-loop μ-loop
 loop-again c =
@@ -30,7 +32,10 @@ loop-again c =
 
 returns-2 : tie.Need-returns-2 Inv-loop μ-loop
 unfolding pagesHold
-returns-2 c = let l = c .before in let a = l .before .before .before .args in passed-all _ (pageCount (a .p)) (l .loop .j) (l .loop .inv .1) (omega arith)
+returns-2 c =
+    let l = c .before in
+    let a = l .before .before .before .before .before .before .before .before .before .before .args in
+    passed-all _ (pageCountIn (a .made)) (l .loop .j) (l .loop .inv .1) (omega arith)
 
 pub pages-hold-spec : {M : Type 1} → statement M
 pages-hold-spec =

@@ -1,5 +1,5 @@
 use mathlib.Core.Path.{_≡_, sym, ap, _∙_}
-use mathlib.Core.Bool.{true, false}
+use mathlib.Core.Bool.{Bool, true, false}
 use mathlib.Core.List.{List}
 use mathlib.Core.Logic.{_≢_}
 use Prim.Native.Nat.{ℕ, _-_}
@@ -8,32 +8,29 @@ use native.Mathlib.Omega.{arith}
 use borrow.Author.Needs.{needs}
 use borrow.Author.Tests.{eq-eqb, ne-eqb, not-true, not-false}
 use Rattle.model.specs.Model.{rule}
-use Rattle.kinds.specs.declared.Kinds.{Kinds}
-use Rattle.regions.specs.declared.Regions.{Regions}
-use Rattle.regions.specs.Regions.{nameOf}
-use Rattle.pages.specs.declared.Pages.{Pages}
-use Rattle.pages.specs.Pages.{ownerOf}
-use Rattle.audit_heap.specs.Heap.{standsAt}
+use Rattle.regions.specs.Regions.{nameIn}
+use Rattle.pages.specs.Pages.{ownerIn}
+use Rattle.audit_heap.specs.Heap.{headAt}
 use Rattle.audit_words.specs.Words.{wordHolds}
 use Rattle.audit_words.proofs.word_holds.Statement.{statement}
 use Rattle.audit_words.proofs.word_holds.Tie as tie
 
 -- a pointer that is not null and leads to an object is left to the mark's rule
-by-rule : (k : Kinds) (heap : List ℕ) (g : Regions) (p : Pages) (own above m x : ℕ) → eqb m 0 ≡ false → eqb x 0 ≡ false → standsAt k heap p (x - 1) ≡ true
-    → rule m (nameOf g (ownerOf p x)) own above ≡ wordHolds k heap g p own above m x
+by-rule : (stands : ℕ → Bool) (names owners : List ℕ) (own above m x : ℕ) → eqb m 0 ≡ false → eqb x 0 ≡ false → stands (x - 1) ≡ true
+    → rule m (nameIn names (ownerIn owners x)) own above ≡ wordHolds stands names owners own above m x
 unfolding wordHolds
-by-rule k heap g p own above m x a b c = rw (a, b, c)
+by-rule stands names owners own above m x a b c = rw (a, b, c)
 
 -- the word is no data; the test of the place that it leads to
-pointer : (c : tie.Else1) → c .before .before .args .m ≢ 0
+pointer : (c : tie.Else1) → c .before .before .before .before .args .m ≢ 0
 pointer c e = omega arith
 
-stands : (c : tie.After-stands-at) → let a = c .before .before .before .before .args in standsAt (a .k) (a .heap .now) (a .t4) (a .x - 1) ≡ c .stands-at .result
+stands : (c : tie.After-stands-at) → let a = c .before .before .before .before .before .before .args in headAt (a .heads .now) (a .x - 1) ≡ c .stands-at .result
 stands c = sym (c .stands-at .ensures)
 
 returns : tie.Need-returns
 unfolding wordHolds
-returns c = simp (eq-eqb (c .before .before .args .m) 0 (omega arith))
+returns c = simp (eq-eqb (c .before .before .before .before .args .m) 0 (omega arith))
 
 returns-2 : tie.Need-returns-2
 unfolding wordHolds
@@ -46,15 +43,14 @@ returns-3 c =
     rw (stands (c .before)) (simp (ne-eqb _ _ (pointer (x .before)), ne-eqb _ _ (x .if2 .left), not-true (c .before .stands-at .result) (c .if3 .taken)))
 
 returns-4 : tie.Need-returns-4
-unfolding ownerOf
 returns-4 c =
     let o = c .before .before in
-    let t = o .before .before .before .before in
+    let t = o .before in
     let x = t .before .before in
-    let a = x .before .before .before .args in
+    let a = x .before .before .before .before .before .args in
     c .allows .ensures
-    ∙ ap (λ n. rule (a .m) n (a .own) (a .above)) (c .before .name-of .ensures ∙ ap (nameOf (a .g)) (o .owner-of .ensures))
-    ∙ by-rule (a .k) (a .heap .now) (a .g) (a .t4) (a .own) (a .above) (a .m) (a .x) (ne-eqb _ _ (pointer (x .before))) (ne-eqb _ _ (x .if2 .left)) (stands (t .before) ∙ not-false (t .before .stands-at .result) (t .if3 .left))
+    ∙ ap (λ n. rule (a .m) n (a .own) (a .above)) (c .before .name-of .ensures ∙ ap (nameIn (a .names .now)) (o .owner-of .ensures))
+    ∙ by-rule (headAt (a .heads .now)) (a .names .now) (a .owners .now) (a .own) (a .above) (a .m) (a .x) (ne-eqb _ _ (pointer (x .before))) (ne-eqb _ _ (x .if2 .left)) (stands (t .before) ∙ not-false (t .before .stands-at .result) (t .if3 .left))
 
 pub word-holds-spec : {M : Type 1} → statement M
 word-holds-spec = tie.close (tie.spec returns returns-2 (λ c. search needs) (λ c κs. search needs) returns-3 (λ c κs. search needs) (λ c κs. search needs) (λ c κs. search needs) returns-4)

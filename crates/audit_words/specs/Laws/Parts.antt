@@ -1,20 +1,21 @@
--- The words handed as a part of the heap are the object's.
+-- An object's words are those of the part of the heap that begins at its header.
 -- Assumes nothing.
 use mathlib.Core.Path.{_≡_}
+use mathlib.Core.Bool.{Bool}
 use mathlib.Core.List.{List}
-use Prim.Native.Nat.{ℕ, _+_}
-use lib.ListN.{getD, take, drop}
-use lib.Seq.{getD-take, getD-drop}
+use Prim.Native.Nat.{ℕ}
+use native.Mathlib.Omega.{arith}
+use lib.ListN.{getD}
 use Rattle.lists.specs.Laws.Every.{every-below}
-use Rattle.kinds.specs.declared.Kinds.{Kinds}
-use Rattle.kinds.specs.Kinds.{sizeOf}
-use Rattle.regions.specs.declared.Regions.{Regions}
-use Rattle.pages.specs.declared.Pages.{Pages}
+use Rattle.kinds.specs.Kinds.{sizeIn}
+use Rattle.objects.specs.Parts.{partAt}
+use Rattle.objects.specs.Laws.Words.{size-most, part-header, part-word}
 use Rattle.audit_words.specs.Words.{wordsHold, objectHolds}
 
-pub object-words : (k : Kinds) (heap : List ℕ) (g : Regions) (p : Pages) (own above q s kind : ℕ) (ws : List ℕ) → s ≡ sizeOf k (getD heap q 0) → kind ≡ getD heap q 0 → ws ≡ take s (drop (q + 1) heap)
-    → objectHolds k heap g p own above q ≡ wordsHold k heap g p own above kind ws s
+pub object-words : (stands : ℕ → Bool) (names owners : List ℕ) (declared : ℕ) (sizes marks heap : List ℕ) (own above q s : ℕ) → s ≡ sizeIn declared sizes (getD heap q 0)
+    → objectHolds stands names owners declared sizes marks heap own above q ≡ wordsHold stands names owners marks (partAt heap q) s own above
 unfolding objectHolds wordsHold
-object-words k heap g p own above q s kind ws es ek ew =
-    rw (ew, ek, es)
-    (every-below _ _ (sizeOf k (getD heap q 0)) (λ w h. rw (getD-take (sizeOf k (getD heap q 0)) (drop (q + 1) heap) w 0 h, getD-drop (q + 1) heap w 0)))
+object-words stands names owners declared sizes marks heap own above q s e =
+    let k = getD heap q 0 in
+    rw (e, part-header heap q)
+    (every-below _ _ (sizeIn declared sizes k) (λ w h. rw (part-word heap q w (omega (arith, size-most declared sizes k)))))

@@ -1,10 +1,10 @@
-use mathlib.Core.Path.{ap, _∙_}
-use mathlib.Core.List.{[]}
+use mathlib.Core.Path.{sym, ap, _∙_}
 use borrow.Author.Needs.{needs}
 use Rattle.lists.specs.Lists.{joined, upTo}
-use Rattle.regions.specs.Laws.Counts.{moved-moved}
-use Rattle.pages.specs.Pages.{pageCount}
-use Rattle.checks.specs.Checks.{slotTags}
+use Rattle.kinds.specs.Kinds.{kindsOf}
+use Rattle.regions.specs.Laws.Steps.{steps-append}
+use Rattle.pages.specs.Pages.{pageCountIn}
+use Rattle.outcomes.specs.Store.{targetsIn}
 use Rattle.calls_audit.specs.Passes.{wordTags, countedTags, allZero, countsFit}
 use Rattle.calls_audit.proofs.counts_fit.Statement.{statement}
 use Rattle.calls_audit.proofs.counts_fit.Tie as tie
@@ -12,13 +12,13 @@ use Rattle.calls_audit.proofs.counts_fit.Tie as tie
 returns : tie.Need-returns
 unfolding countsFit countedTags
 returns c =
-    let d = c .before .before .before .before .before in
-    let a = d .before .before .before .before .before .before .before .args in
-    let p = a .s .pages in
-    c .all-zero .ensures
-    ∙ ap (allZero (a .s .regions))
-    (c .before .leave-frames .ensures
-    ∙ rw (d .leave-pages .ensures) (moved-moved (a .s .regions .counts) [] (joined (wordTags (a .s .kinds) (a .heap .now) p) (upTo (pageCount p))) [] (joined (slotTags (a .s .frames) (p .owners)) (upTo (a .s .frames .counted)))))
+    let f = c .before .before .before .before in
+    let p = f .before .before .before .before in
+    let a = p .before .before .before .before .before .before .before .before .before .before .before .args in
+    let k = kindsOf (a .declared) (a .sizes .now) (a .marks .now) in
+    let ws = joined (wordTags k (a .heap .now) (a .owners .now) (a .taken .now)) (upTo (pageCountIn (a .made))) in
+    let ts = joined (targetsIn (a .widths .now) (a .slots .now) (a .owners .now)) (upTo (a .counted)) in
+    c .all-zero .ensures ∙ ap (allZero (a .names .now)) (f .leave-frames .ensures ∙ rw (p .leave-pages .ensures) (steps-append 4294967295 (a .counts .now) ws ts))
 
 pub counts-fit-spec : {M : Type 1} → statement M
-counts-fit-spec = tie.close (tie.spec (λ c κs. search needs) (λ c κs. search needs) (λ c κs. search needs) returns)
+counts-fit-spec = tie.close (tie.spec (λ c κs. search needs) (λ c κs. search needs) (λ c κs. search needs) (λ c. search needs) returns)

@@ -13,7 +13,7 @@ returns-2 : tie.Need-returns-2
 unfolding isZero
 returns-2 c =
     let n = c .before .before in
-    rw (← n .before .name-at .ensures, ← c .word .ensures) (simp (ne-eqb (n .before .name-at .result) 0 (λ e. omega arith)))
+    rw (← n .name-at .ensures, ← c .word .ensures) (simp (ne-eqb (n .name-at .result) 0 (λ e. omega arith)))
 
 pub is-zero-spec : {M : Type 1} → statement M
-is-zero-spec = tie.close (tie.spec (λ c κs. search needs) returns (λ c. search needs) (λ c κs. search needs) returns-2)
+is-zero-spec = tie.close (tie.spec (λ c κs. search needs) returns (λ c κs. search needs) returns-2)

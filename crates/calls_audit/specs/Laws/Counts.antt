@@ -1,6 +1,6 @@
 -- The test of the stored counts is Sound's clause, where names are distinct, pages are owned by regions that live, and all pointers lead to objects.
 -- Assumes nothing.
-use mathlib.Core.Path.{_≡_, refl, ap, _∙_}
+use mathlib.Core.Path.{_≡_, refl, sym, ap, _∙_}
 use mathlib.Core.Logic.{_≢_}
 use mathlib.Core.Bool.{Bool, true, false, not, _&&_, _||_}
 use mathlib.Core.List.{List, [], map}
@@ -21,21 +21,21 @@ use Rattle.frames.specs.Frames.{frameCount, widthAt, slotAt}
 use Rattle.kinds.specs.Kinds.{sizeOf, markAt}
 use Rattle.regions.specs.Regions.{nameAt, nameOf, parentAt, countAt, rolled, moved}
 use Rattle.regions.specs.Laws.Counts.{Counts, moved-at}
-use Rattle.pages.specs.Pages.{pageCount, ownerAt, ownerIn, ownerOf}
+use Rattle.regions.specs.Laws.Steps.{leavings-moved}
+use Rattle.pages.specs.Pages.{pageCount, ownerAt, takenAt, ownerIn, ownerOf}
 use Rattle.objects.specs.Objects.{headersOn, freeWords, freeWordsOn, outOf}
-use Rattle.outcomes.specs.Store.{Store, frames, kinds, regions, pages, slotsInto, wordsInto}
+use Rattle.outcomes.specs.Store.{Store, frames, kinds, regions, pages, targetsIn, slotTargets, slotsInto}
 use Rattle.outcomes.specs.History.{begin, entries, listedRegions, countsExact, outside, uncountedInto, storedCount}
 use Rattle.outcomes.specs.History as history
 use Rattle.outcomes.specs.Sound.{within}
 use Rattle.outcomes.specs.Laws.Values.{page-most}
 use Rattle.outcomes.specs.Laws.Begin.{every-entry, entry-is}
-use Rattle.outcomes.specs.Laws.Pointers.{Ordered, Known, valueAt, frames-length, slots-into, words-into}
+use Rattle.outcomes.specs.Laws.Pointers.{Ordered, Known, wordsInto, valueAt, frames-length, slots-sum, slots-into, words-into}
 use Rattle.audit_state.specs.Fits.{widthsFit}
 use Rattle.audit_heap.specs.Heap.{known, frameLeads, framesLead}
 use Rattle.audit_words.specs.Words.{wordHolds, objectHolds, objectsHold, pageHolds, pagesHold}
-use Rattle.checks.specs.Checks.{slotTags}
 use Rattle.calls_audit.specs.Passes.{wordTags, countedTags, isZero, allZero, countsFit}
-use Rattle.calls_audit.specs.Laws.Heap.{known-same}
+use Rattle.calls_audit.specs.Laws.Heap.{stands, slotsPass, wordPasses, objectPasses, pageWordsPass, wordsPass, known-same}
 
 eqb-iff : (a b c d : ℕ) → (a ≡ b → c ≡ d) → (c ≡ d → a ≡ b) → eqb a b ≡ eqb c d
 eqb-iff a b c d f g = by-test (eqb c d) (λ e. rw e (eq-eqb a b (g (eqb-true c d e)))) (λ e. rw e (ne-eqb a b (λ q. eqb-false c d e (f q))))
@@ -56,12 +56,14 @@ pick-not false n = refl
 module _ (S : Store) where
   -- ---- tags
 
-  slot-tags : (t f : ℕ) → times t (slotTags (frames S) ((pages S) .owners) f) ≡ slotsInto S t f
-  unfolding slotTags slotsInto ownerOf
-  slot-tags t f = sum-map (λ x. bit (eqb x t)) (λ s. ownerIn ((pages S) .owners) (slotAt (frames S) f s)) (upTo (widthAt (frames S) f))
+  abbrev pub counted : List ℕ
+  counted = countedTags (kinds S) (S .heap) ((pages S) .made) ((pages S) .owners) ((pages S) .taken) ((frames S) .counted) ((frames S) .widths) ((frames S) .slots)
 
-  word-tags : (t j : ℕ) → times t (wordTags (kinds S) (S .heap) (pages S) j) ≡ wordsInto S t j
-  unfolding wordTags wordsInto ownerOf outOf
+  abbrev words : ℕ → List ℕ
+  words = wordTags (kinds S) (S .heap) ((pages S) .owners) ((pages S) .taken)
+
+  word-tags : (t j : ℕ) → times t (words j) ≡ wordsInto S t j
+  unfolding wordTags wordsInto ownerOf outOf freeWordsOn headersOn takenAt ownerAt
   word-tags t j = by-test (eqb own 0) (λ e. rw e) (λ e.
       rw e (times-keep t (λ x. not (eqb x own)) (map (ownerIn ((pages S) .owners)) vs)
       ∙ rw (eqb-sym t own) (pick-not (eqb own t) _ ∙ ap (pick (eqb own t) 0) (sum-map (λ x. bit (eqb x t)) (ownerIn ((pages S) .owners)) vs))))
@@ -72,15 +74,14 @@ module _ (S : Store) where
       vs : List ℕ
       vs = freeWordsOn (kinds S) (S .heap) (pages S) j
 
-  all-tags : (t : ℕ) → times t (countedTags (S .state) (S .heap)) ≡ sum (wordsInto S t) (upTo (pageCount (pages S))) + sum (slotsInto S t) (upTo ((frames S) .counted))
-  unfolding countedTags
+  all-tags : (t : ℕ) → times t counted ≡ sum (wordsInto S t) (upTo (pageCount (pages S))) + sum (slotsInto S t) (upTo ((frames S) .counted))
+  unfolding countedTags pageCount slotsInto slotTargets
   all-tags t =
       let n : ℕ → ℕ = λ x. bit (eqb x t) in
-      let ws = wordTags (kinds S) (S .heap) (pages S) in
-      let fs = slotTags (frames S) ((pages S) .owners) in
-      let a = sum-joined n ws (upTo (pageCount (pages S))) ∙ sum-below (λ j. times t (ws j)) (wordsInto S t) (pageCount (pages S)) (λ j l. word-tags t j) in
-      let b = sum-joined n fs (upTo ((frames S) .counted)) ∙ sum-below (λ f. times t (fs f)) (slotsInto S t) ((frames S) .counted) (λ f l. slot-tags t f) in
-      omega (arith, a, b, sum-append n (joined ws (upTo (pageCount (pages S)))) (joined fs (upTo ((frames S) .counted))))
+      let fs = targetsIn ((frames S) .widths) ((frames S) .slots) ((pages S) .owners) in
+      let a = sum-joined n words (upTo (pageCount (pages S))) ∙ sum-below (λ j. times t (words j)) (wordsInto S t) (pageCount (pages S)) (λ j l. word-tags t j) in
+      let b = sum-joined n fs (upTo ((frames S) .counted)) in
+      omega (arith, a, b, sum-append n (joined words (upTo (pageCount (pages S)))) (joined fs (upTo ((frames S) .counted))))
 
   words-few : (t j : ℕ) → wordsInto S t j ≤ 1024
   unfolding wordsInto
@@ -92,19 +93,19 @@ module _ (S : Store) where
 
   -- ---- the lowest m frames
 
-  module _ (standing : leb ((frames S) .standing) 32 ≡ true) (counted : leb ((frames S) .counted) ((frames S) .standing - 1) ≡ true) (widths : widthsFit (frames S) ≡ true) where
+  module _ (standing : leb ((frames S) .standing) 32 ≡ true) (below : leb ((frames S) .counted) ((frames S) .standing - 1) ≡ true) (widths : widthsFit ((frames S) .standing) ((frames S) .widths) ≡ true) where
     marked : ((frames S) .counted ≤ frameCount (frames S)) × ((frames S) .counted ≤ 32)
     unfolding frameCount
-    marked = let a = leb-true ((frames S) .standing) 32 standing in let b = leb-true ((frames S) .counted) ((frames S) .standing - 1) counted in (omega arith, omega arith)
+    marked = let a = leb-true ((frames S) .standing) 32 standing in let b = leb-true ((frames S) .counted) ((frames S) .standing - 1) below in (omega arith, omega arith)
 
     slots-few : (t f : ℕ) → f < frameCount (frames S) → slotsInto S t f ≤ 8
-    unfolding slotsInto widthsFit
+    unfolding widthsFit frameCount widthAt
     slots-few t f l =
         let n = widthAt (frames S) f in
         let w = both (leb 1 n) (leb n 8) (every-each (λ i. within 1 8 (widthAt (frames S) i)) (frameCount (frames S)) widths f l) in
-        omega (arith, leb-true n 8 (w .1), count-most (λ s. eqb (ownerOf (pages S) (slotAt (frames S) f s)) t) (upTo n), length-upTo n)
+        omega (arith, slots-sum S t f, leb-true n 8 (w .1), count-most (λ s. eqb (ownerOf (pages S) (slotAt (frames S) f s)) t) (upTo n), length-upTo n)
 
-    tags-below : (t : ℕ) → times t (countedTags (S .state) (S .heap)) < 4294967296
+    tags-below : (t : ℕ) → times t counted < 4294967296
     unfolding pageCount
     tags-below t =
         let m = (frames S) .counted in
@@ -121,19 +122,19 @@ module _ (S : Store) where
 
     -- ---- where all pointers lead to objects
 
-    module _ (h : Ordered S) (cs : Counts ((regions S) .counts)) (slots : framesLead (kinds S) (S .heap) (pages S) (frames S) ≡ true) (words : pagesHold (kinds S) (S .heap) (regions S) (pages S) ≡ true) where
+    module _ (h : Ordered S) (cs : Counts ((regions S) .counts)) (slots : slotsPass S ≡ true) (holds : wordsPass S ≡ true) where
       slot-known : (f : ℕ) → f < frameCount (frames S) → (s : ℕ) → s < widthAt (frames S) f → Known S h (slotAt (frames S) f s)
-      unfolding framesLead frameLeads
+      unfolding framesLead frameLeads frameCount widthAt slotAt
       slot-known f l s m =
           known-same S h (slotAt (frames S) f s)
-          ∙ every-each (λ s. known (kinds S) (S .heap) (pages S) (slotAt (frames S) f s)) (widthAt (frames S) f) (every-each (frameLeads (kinds S) (S .heap) (pages S) (frames S)) (frameCount (frames S)) slots f l) s m
+          ∙ every-each (λ s. known (stands S) (slotAt (frames S) f s)) (widthAt (frames S) f) (every-each (frameLeads (stands S) ((frames S) .widths) ((frames S) .slots)) (frameCount (frames S)) slots f l) s m
 
-      word-known : (own above m x : ℕ) → m ≡ 1 → wordHolds (kinds S) (S .heap) (regions S) (pages S) own above m x ≡ true → Known S h x
+      word-known : (own above m x : ℕ) → m ≡ 1 → wordPasses S own above m x ≡ true → Known S h x
       unfolding wordHolds known
       word-known own above m x e t = known-same S h x ∙ or-known (eqb x 0) _ _ (or-other (eqb m 0) _ t (ne-eqb m 0 (λ z. omega arith)))
 
-      object-known : (own above q : ℕ) → objectHolds (kinds S) (S .heap) (regions S) (pages S) own above q ≡ true → All (Known S h) (freeWords (kinds S) (S .heap) q)
-      unfolding objectHolds freeWords
+      object-known : (own above q : ℕ) → objectPasses S own above q ≡ true → All (Known S h) (freeWords (kinds S) (S .heap) q)
+      unfolding objectHolds freeWords sizeOf markAt
       object-known own above q e =
           let k = getD (S .heap) q 0 in
           let n = sizeOf (kinds S) k in
@@ -142,22 +143,22 @@ module _ (S : Store) where
           (each-kept (λ w. Known S h (valueAt S q w)) free n (λ w l m. word-known own above (markAt (kinds S) k w) (valueAt S q w) (eqb-true (markAt (kinds S) k w) 1 m) (every-each _ n e w l)))
 
       page-known : (j : ℕ) → j < pageCount (pages S) → ownerAt (pages S) j ≢ 0 → All (λ q. All (Known S h) (freeWords (kinds S) (S .heap) q)) (headersOn (kinds S) (S .heap) (pages S) j)
-      unfolding pagesHold pageHolds objectsHold
+      unfolding pagesHold pageHolds objectsHold headersOn pageCount ownerAt nameOf parentAt takenAt
       page-known j l n =
           let t = ownerAt (pages S) j in
           let own = nameOf (regions S) t in
           let above = nameOf (regions S) (parentAt (regions S) (t - 1)) in
           let hs = headersOn (kinds S) (S .heap) (pages S) j in
           all-map (λ q e. object-known own above q e) hs
-          (every-true (objectHolds (kinds S) (S .heap) (regions S) (pages S) own above) hs
-          (or-other (eqb t 0) _ (every-each (pageHolds (kinds S) (S .heap) (regions S) (pages S)) (pageCount (pages S)) words j l) (ne-eqb t 0 n)))
+          (every-true (objectPasses S own above) hs
+          (or-other (eqb t 0) _ (every-each (pageWordsPass S) (pageCount (pages S)) holds j l) (ne-eqb t 0 n)))
 
       count-same : (i : ℕ) → i < 64 → nameAt (regions S) i ≢ 0
-          → eqb (storedCount S (nameAt (regions S) i) + uncountedInto (begin S) S (nameAt (regions S) i)) (outside (begin S) S (nameAt (regions S) i)) ≡ eqb (getD (moved ((regions S) .counts) [] (countedTags (S .state) (S .heap))) i 0) 0
+          → eqb (storedCount S (nameAt (regions S) i) + uncountedInto (begin S) S (nameAt (regions S) i)) (outside (begin S) S (nameAt (regions S) i)) ≡ eqb (getD (moved ((regions S) .counts) [] counted) i 0) 0
       unfolding storedCount uncountedInto outside begin countAt
       count-same i l n =
           let c = getD ((regions S) .counts) i 0 in
-          let t = times (suc i) (countedTags (S .state) (S .heap)) in
+          let t = times (suc i) counted in
           let m = (frames S) .counted in
           let r = nameAt (regions S) i in
           let f = history.slotsLeadingTo (begin S) S r in
@@ -165,15 +166,16 @@ module _ (S : Store) where
           let a = sum-below f (slotsInto S (suc i)) m (λ k b. slots-into S h i n k (omega (arith, marked)) (slot-known k (omega (arith, marked)))) in
           let b = words-into S h i n page-known in
           let u = rw e at (sum-above f m (frameCount (frames S))) in
-          rw (entry-is S (h .names) (h .few) i n, frames-length S, moved-at ((regions S) .counts) [] (countedTags (S .state) (S .heap)) i l, rolled-zero c t (cs .1 i) (tags-below (suc i)))
+          rw (entry-is S (h .names) (h .few) i n, frames-length S, moved-at ((regions S) .counts) [] counted i l, rolled-zero c t (cs .1 i) (tags-below (suc i)))
           (eqb-iff (c + sum (λ k. pick (leb m k) (f k) 0) (upTo (frameCount (frames S)))) (sum f (upTo (frameCount (frames S))) + sum (history.wordsLeadingTo (begin S) S r) ((begin S) .objects)) c t (λ q. omega (arith, a, b, u, all-tags (suc i))) (λ q. omega (arith, a, b, u, all-tags (suc i))))
 
-      pub counts-same : countsExact (begin S) S ≡ countsFit (S .state) (S .heap)
-      unfolding countsExact begin listedRegions countsFit allZero isZero
+      pub counts-same : countsExact (begin S) S ≡ countsFit ((regions S) .names) ((regions S) .counts) (kinds S) (S .heap) ((pages S) .made) ((pages S) .owners) ((pages S) .taken) ((frames S) .counted) ((frames S) .widths) ((frames S) .slots)
+      unfolding countsExact begin listedRegions countsFit allZero isZero nameAt
       counts-same =
           let exact : ℕ → Bool = λ r. eqb (storedCount S r + uncountedInto (begin S) S r) (outside (begin S) S r) in
-          let zero : ℕ → Bool = λ i. eqb (getD (moved ((regions S) .counts) [] (countedTags (S .state) (S .heap))) i 0) 0 in
+          let zero : ℕ → Bool = λ i. eqb (getD (moved ((regions S) .counts) [] counted) i 0) 0 in
           every-map (λ g. exact (g .name)) (λ i. record { name = nameAt (regions S) i; parent = nameOf (regions S) (parentAt (regions S) i) }) (entries S)
           ∙ every-entry S (λ i. exact (nameAt (regions S) i))
           ∙ every-below (λ i. eqb (nameAt (regions S) i) 0 || exact (nameAt (regions S) i)) (λ i. eqb (nameAt (regions S) i) 0 || zero i) 64 (λ i l.
           by-test (eqb (nameAt (regions S) i) 0) (λ e. rw e) (λ e. ap (λ b. eqb (nameAt (regions S) i) 0 || b) (count-same i l (eqb-false (nameAt (regions S) i) 0 e))))
+          ∙ ap (allZero ((regions S) .names)) (sym (leavings-moved ((regions S) .counts) counted cs))

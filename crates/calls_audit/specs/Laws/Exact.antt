@@ -1,6 +1,6 @@
 -- All tests pass exactly if the memory is sound.
 -- Assumes nothing.
-use mathlib.Core.Path.{_≡_, sym, _∙_}
+use mathlib.Core.Path.{_≡_, refl, sym, _∙_}
 use mathlib.Core.Logic.{_≢_}
 use mathlib.Core.Bool.{Bool, true, _&&_}
 use mathlib.Core.List.{[], _∷_}
@@ -15,56 +15,67 @@ use Rattle.outcomes.specs.Sound.{Sound, newestOwn, oldestOwn}
 use Rattle.outcomes.specs.Laws.Begin.{every-entry, used-below}
 use Rattle.outcomes.specs.Laws.Pointers.{Ordered}
 use Rattle.audit_state.specs.Fits.{namesakes, stateFits}
-use Rattle.audit_heap.specs.Heap.{pagesFit, newestFits, oldestFits, entryOwns, entriesOwn, framesLead}
-use Rattle.audit_words.specs.Words.{pagesHold}
-use Rattle.calls_audit.specs.Passes.{countsFit, passes}
+use Rattle.audit_heap.specs.Heap.{entryOwns, entriesOwn}
+use Rattle.calls_audit.specs.Passes.{countsFit, heapFits, passesIn, passes}
 use Rattle.calls_audit.specs.Laws.State.{folded-true, each-entry, entry-each, widths-same, state-passes, numbers, sizes, marks, widths, region, levels, distinct, past, one, parents}
-use Rattle.calls_audit.specs.Laws.Heap.{pages-pass, owned, held, filling, newest-same, oldest-same, slots-same, words-same}
+use Rattle.calls_audit.specs.Laws.Heap.{stands, pagesPass, newestPasses, oldestPasses, slotsPass, wordsPass, pages-pass, owned, held, filling, newest-same, oldest-same, slots-same, words-same}
 use Rattle.calls_audit.specs.Laws.Counts.{counts-same}
 
 module _ (S : Store) (names : length ((regions S) .names) ≡ 64) (cs : Counts ((regions S) .counts)) where
-  ordered : stateFits (S .state) (length (S .heap)) ≡ true → pagesFit (kinds S) (S .heap) (regions S) (pages S) ≡ true → Ordered S
-  unfolding namesakes
+  abbrev statePasses : Bool
+  statePasses = stateFits (S .state) (length (S .heap))
+
+  abbrev entriesPass : Bool
+  entriesPass = entriesOwn (stands S) ((regions S) .names) ((regions S) .newest) ((regions S) .oldest) ((pages S) .made) ((pages S) .owners)
+
+  abbrev countsPass : Bool
+  countsPass = countsFit ((regions S) .names) ((regions S) .counts) (kinds S) (S .heap) ((pages S) .made) ((pages S) .owners) ((pages S) .taken) ((frames S) .counted) ((frames S) .widths) ((frames S) .slots)
+
+  all-tests : passes (S .state) (S .heap) ≡ (statePasses && (pagesPass S && entriesPass && slotsPass S && wordsPass S) && countsPass)
+  unfolding passes passesIn heapFits stateFits
+  all-tests = refl
+
+  ordered : statePasses ≡ true → pagesPass S ≡ true → Ordered S
+  unfolding namesakes nameAt
   ordered a b = record { names = names; few = λ i n. eqb-true _ 1 (region S a i (used-below S names i n) n .alone); owned = owned S names b }
 
   abbrev own : ℕ → Bool
-  own i = newestFits (regions S) (pages S) i && oldestFits (kinds S) (S .heap) (regions S) (pages S) i
+  own i = newestPasses S i && oldestPasses S i
 
   -- the test of entries in use
-  own-same : Ordered S → entriesOwn (kinds S) (S .heap) (regions S) (pages S) ≡ true → (i : ℕ) → i < 64 → nameAt (regions S) i ≢ 0 → (newestOwn S i ≡ true) × (oldestOwn S i ≡ true)
-  unfolding entriesOwn entryOwns
+  own-same : Ordered S → entriesPass ≡ true → (i : ℕ) → i < 64 → nameAt (regions S) i ≢ 0 → (newestOwn S i ≡ true) × (oldestOwn S i ≡ true)
+  unfolding entriesOwn entryOwns nameAt
   own-same o e i l n =
-      let t = both (newestFits (regions S) (pages S) i) _ (each-entry S own (every-entry S own ∙ e) i l n) in
+      let t = both (newestPasses S i) _ (each-entry S own (every-entry S own ∙ e) i l n) in
       (newest-same S i ∙ t .0, oldest-same S o i n ∙ t .1)
 
-  same-own : Ordered S → Sound S → entriesOwn (kinds S) (S .heap) (regions S) (pages S) ≡ true
-  unfolding entriesOwn entryOwns
+  same-own : Ordered S → Sound S → entriesPass ≡ true
+  unfolding entriesOwn entryOwns nameAt
   same-own o h =
       sym (every-entry S own)
       ∙ entry-each S own (λ i l n. rw (← newest-same S i, ← oldest-same S o i n, each-entry S (newestOwn S) (h .newest) i l n) (each-entry S (oldestOwn S) (h .oldest) i l n))
 
   pub sound-passes : Sound S → passes (S .state) (S .heap) ≡ true
-  unfolding passes
   sound-passes h =
       let a = state-passes S h in
       let b = pages-pass S names h in
       let o = ordered a b in
       let f = sym (slots-same S o) ∙ h .slots in
       let w = sym (words-same S o) ∙ h .words in
-      rw (a, b, same-own o h, f, w) (sym (counts-same S (h .standing) (h .counted) (sym (widths-same S) ∙ h .widths) o cs f w) ∙ h .counts)
+      all-tests ∙ rw (a, b, same-own o h, f, w) (sym (counts-same S (h .standing) (h .counted) (sym (widths-same S) ∙ h .widths) o cs f w) ∙ h .counts)
 
   pub passes-sound : passes (S .state) (S .heap) ≡ true → Sound S
-  unfolding passes
   passes-sound e =
-      let t = folded-true (stateFits (S .state) (length (S .heap))) (pagesFit (kinds S) (S .heap) (regions S) (pages S) ∷ entriesOwn (kinds S) (S .heap) (regions S) (pages S) ∷ framesLead (kinds S) (S .heap) (pages S) (frames S) ∷ pagesHold (kinds S) (S .heap) (regions S) (pages S) ∷ countsFit (S .state) (S .heap) ∷ []) e in
-      let a = t .0 in
-      let b = t .1 .0 in
+      let all = folded-true statePasses ((pagesPass S && entriesPass && slotsPass S && wordsPass S) ∷ countsPass ∷ []) (sym all-tests ∙ e) in
+      let t = folded-true (pagesPass S) (entriesPass ∷ slotsPass S ∷ wordsPass S ∷ []) (all .1 .0) in
+      let a = all .0 in
+      let b = t .0 in
       let o = ordered a b in
-      let f = t .1 .1 .1 .0 in
-      let w = t .1 .1 .1 .1 .0 in
+      let f = t .1 .1 .0 in
+      let w = t .1 .1 .1 .0 in
       let n = numbers S a in
       record {
-        counts = counts-same S (n .standing) (n .counted) (sym (widths-same S) ∙ widths S a) o cs f w ∙ t .1 .1 .1 .1 .1 .0;
+        counts = counts-same S (n .standing) (n .counted) (sym (widths-same S) ∙ widths S a) o cs f w ∙ all .1 .1 .0;
         slots = slots-same S o ∙ f;
         words = words-same S o ∙ w;
         held = held S names b;
@@ -83,6 +94,6 @@ module _ (S : Store) (names : length ((regions S) .names) ≡ 64) (cs : Counts (
         one = one S a;
         parents = parents S a;
         filling = filling S names b;
-        newest = entry-each S (newestOwn S) (λ i l n. own-same o (t .1 .1 .0) i l n .0);
-        oldest = entry-each S (oldestOwn S) (λ i l n. own-same o (t .1 .1 .0) i l n .1);
+        newest = entry-each S (newestOwn S) (λ i l n. own-same o (t .1 .0) i l n .0);
+        oldest = entry-each S (oldestOwn S) (λ i l n. own-same o (t .1 .0) i l n .1);
       }

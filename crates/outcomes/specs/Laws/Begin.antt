@@ -14,10 +14,10 @@ use Rattle.lists.specs.Lists.{bit, pick, any, every, keep, find, count, All, jo
 use Rattle.lists.specs.Laws.Tests.{both, by-test, by-same, pick-same}
 use Rattle.lists.specs.Laws.All.{all-map, all-change}
 use Rattle.lists.specs.Laws.Sums.{sum-map, sum-keep, length-keep}
-use Rattle.lists.specs.Laws.Finds.{any-map, any-joined, any-keep, find-keep, find-none, find-passes, all-found, all-keep, false-any, true-every, times-keep}
+use Rattle.lists.specs.Laws.Finds.{any-map, any-keep, find-keep, find-none, find-passes, all-found, all-keep, false-any, true-every, times-keep}
 use Rattle.lists.specs.Laws.UpTo.{all-upTo, any-one, sum-below, find-found, find-first}
 use Rattle.lists.specs.Laws.Kept.{map-same, joined-same, joined-kept, map-joined, all-each, find-changed, sum-single, sum-two}
-use Rattle.lists.specs.Laws.Every.{every-map, every-keep, every-below, any-single}
+use Rattle.lists.specs.Laws.Every.{every-map, every-keep, every-below}
 use Rattle.kinds.specs.declared.Kinds.{Kinds}
 use Rattle.kinds.specs.Kinds.{sizeOf}
 use Rattle.regions.specs.Regions.{nameAt, nameOf, entryOf, parentAt, isLive, entryIn, nameIn}
@@ -101,18 +101,13 @@ module _ (S : Store) where
       go j true = refl
       go j false = map-same _ _ (headersOn (kinds S) (S .heap) (pages S) j) (all-map (λ q k. rw k) (headersOn (kinds S) (S .heap) (pages S) j) (on-page j))
 
-  -- a pointer leads to an object where its header is met on its page
-  pub leads-is : (q : ℕ) → leads (begin S) (suc q) ≡ (ltb (q / 64) (pageCount (pages S)) && among q (headersOf (q / 64)))
+  -- a pointer leads to an object where its header is met
+  pub leads-among : (q : ℕ) → leads (begin S) (suc q) ≡ among q headers
   unfolding leads
-  leads-is q =
+  leads-among q =
       ap (any (at (suc q))) begin-objects
       ∙ any-map (at (suc q)) objectAt headers
       ∙ ap (λ f. any f headers) (fun-ext (λ x. rw (add-one x) (eqb·suc-suc x q)))
-      ∙ any-joined (λ x. eqb x q) headersOf (upTo (pageCount (pages S)))
-      ∙ any-single (λ j. among q (headersOf j)) (pageCount (pages S)) (q / 64) elsewhere
-    where
-      elsewhere : (j : ℕ) → j ≢ q / 64 → among q (headersOf j) ≡ false
-      elsewhere j n = false-any (λ x. eqb x q) (headersOf j) (all-map (λ x e. ne-eqb x q (λ z. n (sym e ∙ ap (λ y. y / 64) z))) (headersOf j) (page-of j))
 
   -- its region is the one that holds that page
   home-page : All (λ o. o .home ≡ holderOf (o .place / 64)) ((begin S) .objects)

@@ -9,7 +9,7 @@ use native.Mathlib.Omega.{arith}
 use lib.Dec.{eqb, ltb, eqb·suc-zero}
 use lib.ListN.{length, getD, List·getD-eq-default}
 use borrow.Author.Tests.{eqb-true, eqb-false, ne-eqb, ltb-true, ltb-false, lt-leb}
-use Rattle.lists.specs.Lists.{bit, pick, every, keep, sum, count, All, joined, upTo, among}
+use Rattle.lists.specs.Lists.{bit, pick, every, keep, sum, count, All, joined, upTo}
 use Rattle.lists.specs.Laws.Tests.{by-test, or-other, pick-same}
 use Rattle.lists.specs.Laws.All.{all-map, all-both}
 use Rattle.lists.specs.Laws.Sums.{sum-map, sum-keep, sum-same, sum-joined}
@@ -24,7 +24,7 @@ use Rattle.objects.specs.Objects.{headersOn, freeWords, freeWordsOn}
 use Rattle.outcomes.specs.Store.{Store, frames, kinds, regions, pages, slotsInto, slotTargets, targetsIn}
 use Rattle.outcomes.specs.History.{Object, Word, begin, listedKinds, listedFrames, slotsOf, pointersOf, leads, homeOf}
 use Rattle.outcomes.specs.History as history
-use Rattle.outcomes.specs.Laws.Begin.{holderOf, headersOf, headers, objectAt, begin-objects, page-of, leads-is, leads-null, home-is, home-none, name-same}
+use Rattle.outcomes.specs.Laws.Begin.{holderOf, headersOf, headers, objectAt, begin-objects, page-of, leads-null, home-is, home-none, name-same}
 
 -- how many words marked 1 on page j lead into the region with tag t: none if the page is free or is that region's
 unfoldable pub wordsInto : Store → ℕ → ℕ → ℕ
@@ -130,17 +130,6 @@ pub record Ordered (S : Store) : Type 0 where
   pub owned : (j : ℕ) → j < pageCount (pages S) → ownerAt (pages S) j ≢ 0 → holderOf S j ≢ 0
 
 module _ (S : Store) (h : Ordered S) where
-  -- a header met on a page that is not free
-  pub leads-owned : (q : ℕ) → leads (begin S) (suc q) ≡ (ltb (q / 64) (pageCount (pages S)) && (not (eqb (ownerAt (pages S) (q / 64)) 0) && among q (headersOn (kinds S) (S .heap) (pages S) (q / 64))))
-  unfolding nameOf nameIn
-  leads-owned q = leads-is S q ∙ go (ltb (q / 64) (pageCount (pages S))) refl
-    where
-      go : (b : Bool) → ltb (q / 64) (pageCount (pages S)) ≡ b → (b && among q (headersOf S (q / 64))) ≡ (b && (not (eqb (ownerAt (pages S) (q / 64)) 0) && among q (headersOn (kinds S) (S .heap) (pages S) (q / 64))))
-      go false e = refl
-      go true e = by-test (eqb (ownerAt (pages S) (q / 64)) 0)
-          (λ z. rw (z, eqb-true (ownerAt (pages S) (q / 64)) 0 z))
-          (λ z. rw (z, ne-eqb (holderOf S (q / 64)) 0 (h .owned (q / 64) (ltb-true (q / 64) _ e) (eqb-false (ownerAt (pages S) (q / 64)) 0 z))))
-
   -- null, or leading to an object
   abbrev pub Known : ℕ → Type 0
   Known v = (eqb v 0 || leads (begin S) v) ≡ true
