@@ -213,8 +213,7 @@ fn arguments(s: &[u8], at: usize, n: u32) -> Line
         if 4294967296 <= v {
             return bare(24);
         }
-        let more = cells::put64(args, k as usize, v as u32);
-        args = more;
+        cells::store(&mut args, k as usize, v as u32);
         k += 1;
         i = to;
     }

@@ -54,10 +54,15 @@ pick-not true n = refl
 pick-not false n = refl
 
 module _ (S : Store) where
+  -- ---- the test over lists, of those of S
+
+  abbrev pub countsPass : Bool
+  countsPass = countsFit ((regions S) .names) ((regions S) .counts) (kinds S) (S .heap) ((pages S) .made) ((pages S) .owners) ((pages S) .taken) ((frames S) .counted) ((frames S) .widths) ((frames S) .slots)
+
   -- ---- tags
 
-  abbrev pub counted : List ℕ
-  counted = countedTags (kinds S) (S .heap) ((pages S) .made) ((pages S) .owners) ((pages S) .taken) ((frames S) .counted) ((frames S) .widths) ((frames S) .slots)
+  abbrev tags : List ℕ
+  tags = countedTags (kinds S) (S .heap) ((pages S) .made) ((pages S) .owners) ((pages S) .taken) ((frames S) .counted) ((frames S) .widths) ((frames S) .slots)
 
   abbrev words : ℕ → List ℕ
   words = wordTags (kinds S) (S .heap) ((pages S) .owners) ((pages S) .taken)
@@ -74,7 +79,7 @@ module _ (S : Store) where
       vs : List ℕ
       vs = freeWordsOn (kinds S) (S .heap) (pages S) j
 
-  all-tags : (t : ℕ) → times t counted ≡ sum (wordsInto S t) (upTo (pageCount (pages S))) + sum (slotsInto S t) (upTo ((frames S) .counted))
+  all-tags : (t : ℕ) → times t tags ≡ sum (wordsInto S t) (upTo (pageCount (pages S))) + sum (slotsInto S t) (upTo ((frames S) .counted))
   unfolding countedTags pageCount slotsInto slotTargets
   all-tags t =
       let n : ℕ → ℕ = λ x. bit (eqb x t) in
@@ -105,7 +110,7 @@ module _ (S : Store) where
         let w = both (leb 1 n) (leb n 8) (every-each (λ i. within 1 8 (widthAt (frames S) i)) (frameCount (frames S)) widths f l) in
         omega (arith, slots-sum S t f, leb-true n 8 (w .1), count-most (λ s. eqb (ownerOf (pages S) (slotAt (frames S) f s)) t) (upTo n), length-upTo n)
 
-    tags-below : (t : ℕ) → times t counted < 4294967296
+    tags-below : (t : ℕ) → times t tags < 4294967296
     unfolding pageCount
     tags-below t =
         let m = (frames S) .counted in
@@ -154,11 +159,11 @@ module _ (S : Store) where
           (or-other (eqb t 0) _ (every-each (pageWordsPass S) (pageCount (pages S)) holds j l) (ne-eqb t 0 n)))
 
       count-same : (i : ℕ) → i < 64 → nameAt (regions S) i ≢ 0
-          → eqb (storedCount S (nameAt (regions S) i) + uncountedInto (begin S) S (nameAt (regions S) i)) (outside (begin S) S (nameAt (regions S) i)) ≡ eqb (getD (moved ((regions S) .counts) [] counted) i 0) 0
+          → eqb (storedCount S (nameAt (regions S) i) + uncountedInto (begin S) S (nameAt (regions S) i)) (outside (begin S) S (nameAt (regions S) i)) ≡ eqb (getD (moved ((regions S) .counts) [] tags) i 0) 0
       unfolding storedCount uncountedInto outside begin countAt
       count-same i l n =
           let c = getD ((regions S) .counts) i 0 in
-          let t = times (suc i) counted in
+          let t = times (suc i) tags in
           let m = (frames S) .counted in
           let r = nameAt (regions S) i in
           let f = history.slotsLeadingTo (begin S) S r in
@@ -166,16 +171,16 @@ module _ (S : Store) where
           let a = sum-below f (slotsInto S (suc i)) m (λ k b. slots-into S h i n k (omega (arith, marked)) (slot-known k (omega (arith, marked)))) in
           let b = words-into S h i n page-known in
           let u = rw e at (sum-above f m (frameCount (frames S))) in
-          rw (entry-is S (h .names) (h .few) i n, frames-length S, moved-at ((regions S) .counts) [] counted i l, rolled-zero c t (cs .1 i) (tags-below (suc i)))
+          rw (entry-is S (h .names) (h .few) i n, frames-length S, moved-at ((regions S) .counts) [] tags i l, rolled-zero c t (cs .1 i) (tags-below (suc i)))
           (eqb-iff (c + sum (λ k. pick (leb m k) (f k) 0) (upTo (frameCount (frames S)))) (sum f (upTo (frameCount (frames S))) + sum (history.wordsLeadingTo (begin S) S r) ((begin S) .objects)) c t (λ q. omega (arith, a, b, u, all-tags (suc i))) (λ q. omega (arith, a, b, u, all-tags (suc i))))
 
-      pub counts-same : countsExact (begin S) S ≡ countsFit ((regions S) .names) ((regions S) .counts) (kinds S) (S .heap) ((pages S) .made) ((pages S) .owners) ((pages S) .taken) ((frames S) .counted) ((frames S) .widths) ((frames S) .slots)
+      pub counts-same : countsExact (begin S) S ≡ countsPass
       unfolding countsExact begin listedRegions countsFit allZero isZero nameAt
       counts-same =
           let exact : ℕ → Bool = λ r. eqb (storedCount S r + uncountedInto (begin S) S r) (outside (begin S) S r) in
-          let zero : ℕ → Bool = λ i. eqb (getD (moved ((regions S) .counts) [] counted) i 0) 0 in
+          let zero : ℕ → Bool = λ i. eqb (getD (moved ((regions S) .counts) [] tags) i 0) 0 in
           every-map (λ g. exact (g .name)) (λ i. record { name = nameAt (regions S) i; parent = nameOf (regions S) (parentAt (regions S) i) }) (entries S)
           ∙ every-entry S (λ i. exact (nameAt (regions S) i))
           ∙ every-below (λ i. eqb (nameAt (regions S) i) 0 || exact (nameAt (regions S) i)) (λ i. eqb (nameAt (regions S) i) 0 || zero i) 64 (λ i l.
           by-test (eqb (nameAt (regions S) i) 0) (λ e. rw e) (λ e. ap (λ b. eqb (nameAt (regions S) i) 0 || b) (count-same i l (eqb-false (nameAt (regions S) i) 0 e))))
-          ∙ ap (allZero ((regions S) .names)) (sym (leavings-moved ((regions S) .counts) counted cs))
+          ∙ ap (allZero ((regions S) .names)) (sym (leavings-moved ((regions S) .counts) tags cs))

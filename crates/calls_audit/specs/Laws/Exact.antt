@@ -10,28 +10,23 @@ use borrow.Author.Tests.{eqb-true}
 use Rattle.lists.specs.Laws.Tests.{both}
 use Rattle.regions.specs.Regions.{nameAt}
 use Rattle.regions.specs.Laws.Counts.{Counts}
-use Rattle.outcomes.specs.Store.{Store, frames, kinds, regions, pages}
+use Rattle.outcomes.specs.Store.{Store, regions}
 use Rattle.outcomes.specs.Sound.{Sound, newestOwn, oldestOwn}
 use Rattle.outcomes.specs.Laws.Begin.{every-entry, used-below}
 use Rattle.outcomes.specs.Laws.Pointers.{Ordered}
 use Rattle.audit_state.specs.Fits.{namesakes, stateFits}
 use Rattle.audit_heap.specs.Heap.{entryOwns, entriesOwn}
-use Rattle.calls_audit.specs.Passes.{countsFit, heapFits, passesIn, passes}
+use Rattle.calls_audit.specs.Passes.{heapFits, passesIn, passes}
 use Rattle.calls_audit.specs.Laws.State.{folded-true, each-entry, entry-each, widths-same, state-passes, numbers, sizes, marks, widths, region, levels, distinct, past, one, parents}
-use Rattle.calls_audit.specs.Laws.Heap.{stands, pagesPass, newestPasses, oldestPasses, slotsPass, wordsPass, pages-pass, owned, held, filling, newest-same, oldest-same, slots-same, words-same}
-use Rattle.calls_audit.specs.Laws.Counts.{counts-same}
+use Rattle.calls_audit.specs.Laws.Heap.{pagesPass, newestPasses, oldestPasses, entriesPass, slotsPass, wordsPass, pages-pass, owned, held, filling, newest-same, oldest-same, slots-same, words-same}
+use Rattle.calls_audit.specs.Laws.Counts.{countsPass, counts-same}
 
 module _ (S : Store) (names : length ((regions S) .names) ≡ 64) (cs : Counts ((regions S) .counts)) where
   abbrev statePasses : Bool
   statePasses = stateFits (S .state) (length (S .heap))
 
-  abbrev entriesPass : Bool
-  entriesPass = entriesOwn (stands S) ((regions S) .names) ((regions S) .newest) ((regions S) .oldest) ((pages S) .made) ((pages S) .owners)
-
-  abbrev countsPass : Bool
-  countsPass = countsFit ((regions S) .names) ((regions S) .counts) (kinds S) (S .heap) ((pages S) .made) ((pages S) .owners) ((pages S) .taken) ((frames S) .counted) ((frames S) .widths) ((frames S) .slots)
-
-  all-tests : passes (S .state) (S .heap) ≡ (statePasses && (pagesPass S && entriesPass && slotsPass S && wordsPass S) && countsPass)
+  -- all tests, group by group
+  all-tests : passes (S .state) (S .heap) ≡ (statePasses && (pagesPass S && entriesPass S && slotsPass S && wordsPass S) && countsPass S)
   unfolding passes passesIn heapFits stateFits
   all-tests = refl
 
@@ -43,13 +38,13 @@ module _ (S : Store) (names : length ((regions S) .names) ≡ 64) (cs : Counts (
   own i = newestPasses S i && oldestPasses S i
 
   -- the test of entries in use
-  own-same : Ordered S → entriesPass ≡ true → (i : ℕ) → i < 64 → nameAt (regions S) i ≢ 0 → (newestOwn S i ≡ true) × (oldestOwn S i ≡ true)
+  own-same : Ordered S → entriesPass S ≡ true → (i : ℕ) → i < 64 → nameAt (regions S) i ≢ 0 → (newestOwn S i ≡ true) × (oldestOwn S i ≡ true)
   unfolding entriesOwn entryOwns nameAt
   own-same o e i l n =
       let t = both (newestPasses S i) _ (each-entry S own (every-entry S own ∙ e) i l n) in
       (newest-same S i ∙ t .0, oldest-same S o i n ∙ t .1)
 
-  same-own : Ordered S → Sound S → entriesPass ≡ true
+  same-own : Ordered S → Sound S → entriesPass S ≡ true
   unfolding entriesOwn entryOwns nameAt
   same-own o h =
       sym (every-entry S own)
@@ -66,8 +61,8 @@ module _ (S : Store) (names : length ((regions S) .names) ≡ 64) (cs : Counts (
 
   pub passes-sound : passes (S .state) (S .heap) ≡ true → Sound S
   passes-sound e =
-      let all = folded-true statePasses ((pagesPass S && entriesPass && slotsPass S && wordsPass S) ∷ countsPass ∷ []) (sym all-tests ∙ e) in
-      let t = folded-true (pagesPass S) (entriesPass ∷ slotsPass S ∷ wordsPass S ∷ []) (all .1 .0) in
+      let all = folded-true statePasses ((pagesPass S && entriesPass S && slotsPass S && wordsPass S) ∷ countsPass S ∷ []) (sym all-tests ∙ e) in
+      let t = folded-true (pagesPass S) (entriesPass S ∷ slotsPass S ∷ wordsPass S ∷ []) (all .1 .0) in
       let a = all .0 in
       let b = t .0 in
       let o = ordered a b in

@@ -29,7 +29,7 @@ use Rattle.outcomes.specs.History.{Object, begin, listedHeld, pointersOf, leads
 use Rattle.outcomes.specs.Sound.{Sound, filled, newestOwn, oldestOwn}
 use Rattle.outcomes.specs.Laws.Begin.{holderOf, headersOf, headers, objectAt, holding, begin-objects, page-of, leads-among, pages-held, pages-filled, home-none, parent-is}
 use Rattle.outcomes.specs.Laws.Pointers.{Ordered, valueAt, every-slot, every-pointer, home-name, home-tag}
-use Rattle.audit_heap.specs.Heap.{headersIn, filledTo, pageFits, pagesFit, headersHeld, allHeaders, ticked, headAt, newestFits, oldestFits, known, frameLeads, framesLead}
+use Rattle.audit_heap.specs.Heap.{headersIn, filledTo, pageFits, pagesFit, headersHeld, allHeaders, ticked, headAt, newestFits, oldestFits, entriesOwn, known, frameLeads, framesLead}
 use Rattle.audit_heap.specs.Laws.Ticks.{blank-ticked}
 use Rattle.audit_words.specs.Words.{wordHolds, objectHolds, objectsHold, pageHolds, pagesHold}
 
@@ -54,6 +54,9 @@ module _ (S : Store) where
 
   abbrev pub oldestPasses : ℕ → Bool
   oldestPasses = oldestFits stands ((regions S) .oldest) ((pages S) .owners)
+
+  abbrev pub entriesPass : Bool
+  entriesPass = entriesOwn stands ((regions S) .names) ((regions S) .newest) ((regions S) .oldest) ((pages S) .made) ((pages S) .owners)
 
   abbrev pub slotsPass : Bool
   slotsPass = framesLead stands ((frames S) .standing) ((frames S) .widths) ((frames S) .slots)

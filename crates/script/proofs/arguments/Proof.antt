@@ -3,7 +3,7 @@ use mathlib.Core.Path.{_≡_, sym, _∙_}
 use mathlib.Core.List.{_∷_, map}
 use borrow.Author.Needs.{needs}
 use native.Mathlib.Omega.{arith}
-use lib.ListN.{drop}
+use lib.ListN.{length, drop, length-set}
 use Rattle.script.specs.Script.{words, value, zeros, line, bad, given}
 use Rattle.script.specs.Laws.Lines.{givenFrom, given-all, given-next, given-none, given-odd, given-full}
 use Rattle.script.proofs.arguments.Statement.{statement}
@@ -11,20 +11,20 @@ use Rattle.script.proofs.arguments.Tie as tie
 
 -- the arguments read so far and the words to come give the whole
 abbrev Inv-loop : tie.InvT-loop
-Inv-loop s at n args₀ k₀ i₀ args k i = (k ≤ 65) × (givenFrom n k args (map value (words (drop i s))) ≡ given n (map value (words (drop at s))))
+Inv-loop s at n args₀ k₀ i₀ args k i = (k ≤ 65) × (length args ≡ 64) × (givenFrom n k args (map value (words (drop i s))) ≡ given n (map value (words (drop at s))))
 
 abbrev μ-loop : tie.MeasureT-loop
 μ-loop s at n args₀ k₀ i₀ args k i = 65 - k
 
 loop-holds : tie.Need-loop-holds Inv-loop μ-loop
 unfolding zeros
-loop-holds c = (search needs, given-all _ _)
+loop-holds c = (search needs, search needs, given-all _ _)
 
 returns : tie.Need-returns Inv-loop μ-loop
 returns c =
     let l = c .before .before .before in
     let a = l .before .before .args in
-    given-none (a .n) (l .loop .k) (l .loop .args) (omega arith) ∙ rw (c .before .word .ensures .none (c .if1 .taken)) at (l .loop .inv .1)
+    given-none (a .n) (l .loop .k) (l .loop .args) (omega arith) ∙ rw (c .before .word .ensures .none (c .if1 .taken)) at (l .loop .inv .2)
 
 -- the word found is the next argument
 next : (c : tie.After-number Inv-loop μ-loop)
@@ -34,21 +34,25 @@ next : (c : tie.After-number Inv-loop μ-loop)
     ≡ given (a .n) (map value (words (drop (a .at) (a .s .now))))
 next c =
     rw (c .number .ensures)
-    (rw (c .before .before .before .word .ensures .some (c .before .before .if1 .left)) at (c .before .before .before .before .before .loop .inv .1))
+    (rw (c .before .before .before .word .ensures .some (c .before .before .if1 .left)) at (c .before .before .before .before .before .loop .inv .2))
 
 returns-2 : tie.Need-returns-2 Inv-loop μ-loop
 unfolding line bad
 returns-2 c = c .bare .ensures ∙ given-odd _ _ _ _ _ (c .before .if2 .taken) ∙ next (c .before .before)
 
 loop-again : tie.Need-loop-again Inv-loop μ-loop
-loop-again c = (omega arith, rw (c .put64 .ensures) (sym (given-next _ _ _ _ _ (c .before .if2 .left)) ∙ next (c .before .before)))
+loop-again c =
+    let w = c .before in
+    let i = w .before .before in
+    let l = i .before .before .before .before .before .before in
+    (omega arith, rw (w .store .ensures) (simp length-set (l .loop .inv .1)), rw (w .store .ensures) (sym (given-next _ _ _ _ _ (i .if2 .left)) ∙ next (i .before)))
 
 returns-3 : tie.Need-returns-3 Inv-loop μ-loop
 unfolding line bad
 returns-3 c =
     let l = c .before .before in
     let a = l .before .before .args in
-    c .bare2 .ensures ∙ given-full (a .n) (l .loop .k) (l .loop .args) (map value (words (drop (l .loop .i) (a .s .now)))) (omega arith) ∙ l .loop .inv .1
+    c .bare2 .ensures ∙ given-full (a .n) (l .loop .k) (l .loop .args) (map value (words (drop (l .loop .i) (a .s .now)))) (omega arith) ∙ l .loop .inv .2
 
 pub arguments-spec : {M : Type 1} → statement M
 arguments-spec =
@@ -65,6 +69,7 @@ arguments-spec =
     (λ c κs. search needs)
     (λ c κs. search needs)
     returns-2
+    (λ c. search needs)
     (λ c. search needs)
     (λ c. search needs)
     (λ c κs. search needs)
