@@ -9,14 +9,14 @@ use lib.Dec.{eqb, ltb}
 use lib.ListN.{getD, set}
 use Rattle.lists.specs.Lists.{pick, every, sum, joined, upTo}
 use Rattle.frames.specs.Frames.{frameCountIn, widthIn, slotIn}
-use Rattle.kinds.specs.Kinds.{kindsOf, sizeIn}
+use Rattle.kinds.specs.Kinds.{kindsWith, sizeIn}
 use Rattle.regions.specs.Regions.{nameIn}
 use Rattle.pages.specs.Pages.{pageCountIn, takenIn, ownerIn}
 use Rattle.objects.specs.Objects.{headersTo}
 
 -- the headers met on page j, as far as n words of it; marks have no part in a walk
 abbrev pub headersIn : ℕ → List ℕ → List ℕ → ℕ → ℕ → List ℕ
-headersIn declared sizes heap j n = headersTo (kindsOf declared sizes []) heap j n
+headersIn declared sizes heap j n = headersTo (kindsWith declared sizes []) heap j n
 
 -- the words that these objects take
 unfoldable pub filledTo : ℕ → List ℕ → List ℕ → ℕ → ℕ → ℕ

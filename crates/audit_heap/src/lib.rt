@@ -12,7 +12,7 @@ fn filled_to(declared: u32, sizes: &[u8], heap: &[u32], j: u32, n: u32) -> usize
     let mut i: u32 = 0;
     while i < 64 {
         let object = objects::part_at(heap, at);
-        let s = objects::size_in(declared, sizes, object, end - at);
+        let s = objects::fitting(declared, sizes, object, end - at);
         if s == 0 {
             return at - start;
         }
@@ -76,7 +76,7 @@ fn tick_page(declared: u32, sizes: &[u8], heap: &[u32], j: u32, n: u32, heads: &
     let mut i: u32 = 0;
     while i < 64 {
         let object = objects::part_at(heap, at);
-        let s = objects::size_in(declared, sizes, object, end - at);
+        let s = objects::fitting(declared, sizes, object, end - at);
         if s == 0 {
             break;
         }

@@ -7,7 +7,7 @@ use lib.Dec.{eqb}
 use lib.ListN.{getD}
 use Rattle.lists.specs.Lists.{every, upTo}
 use Rattle.model.specs.Model.{rule}
-use Rattle.kinds.specs.Kinds.{kindsOf, sizeIn, markIn}
+use Rattle.kinds.specs.Kinds.{kindsWith, sizeIn, markIn}
 use Rattle.regions.specs.Regions.{nameIn}
 use Rattle.pages.specs.Pages.{pageCountIn, takenIn, ownerIn}
 use Rattle.objects.specs.Objects.{headersTo}
@@ -30,7 +30,7 @@ module _ (stands : ℕ → Bool) (names owners : List ℕ) where
 
     -- the objects on page j, as far as n words of it
     unfoldable pub objectsHold : ℕ → ℕ → ℕ → ℕ → Bool
-    objectsHold own above j n = every (objectHolds own above) (headersTo (kindsOf declared sizes marks) heap j n)
+    objectsHold own above j n = every (objectHolds own above) (headersTo (kindsWith declared sizes marks) heap j n)
 
     -- those on page j, if it is not free; on all pages
     unfoldable pub pageHolds : List ℕ → List ℕ → ℕ → Bool

@@ -81,7 +81,7 @@ fn objects_hold<'a>(
     let mut i: u32 = 0;
     while i < 64 {
         let object = objects::part_at(heap, at);
-        let s = objects::size_in(declared, sizes, object, end - at);
+        let s = objects::fitting(declared, sizes, object, end - at);
         if s == 0 {
             return true;
         }

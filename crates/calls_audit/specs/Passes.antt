@@ -7,10 +7,10 @@ use lib.Dec.{eqb}
 use lib.ListN.{length, getD, replicate}
 use Rattle.lists.specs.Lists.{pick, every, joined, upTo}
 use Rattle.kinds.specs.declared.Kinds.{Kinds}
-use Rattle.kinds.specs.Kinds.{kindsOf}
+use Rattle.kinds.specs.Kinds.{kindsWith}
 use Rattle.regions.specs.Laws.Steps.{leavings}
 use Rattle.pages.specs.Pages.{pageCountIn, takenIn}
-use Rattle.objects.specs.Objects.{headersTo, freeWords, outOf}
+use Rattle.objects.specs.Objects.{outOf, freeWordsTo}
 use Rattle.state.specs.declared.State.{State}
 use Rattle.outcomes.specs.Store.{targetsIn}
 use Rattle.audit_state.specs.Fits.{stateFitsIn}
@@ -23,7 +23,7 @@ use Rattle.audit_words.specs.Words.{pagesHold}
 unfoldable pub wordTags : Kinds → List ℕ → List ℕ → List ℕ → ℕ → List ℕ
 wordTags k heap owners taken j =
     let t = getD owners j 0 in
-    pick (eqb t 0) [] (outOf owners t (joined (freeWords k heap) (headersTo k heap j (takenIn taken j))))
+    pick (eqb t 0) [] (outOf owners t (freeWordsTo k heap j (takenIn taken j)))
 
 -- what has to be in the stored counts: words marked 1, and slots of the lowest m frames
 unfoldable pub countedTags : Kinds → List ℕ → ℕ → List ℕ → List ℕ → ℕ → List ℕ → List ℕ → List ℕ
@@ -56,7 +56,7 @@ unfoldable pub passesIn : List ℕ → List ℕ → List ℕ → ℕ → List �
 passesIn heads cs heap declared sizes marks standing counted widths slots given names parents levels newest oldest made owners taken =
     stateFitsIn made (length heap) declared sizes marks standing counted widths given names parents levels
     && heapFits heads declared sizes marks heap names parents newest oldest made owners taken standing widths slots
-    && countsFit names cs (kindsOf declared sizes marks) heap made owners taken counted widths slots
+    && countsFit names cs (kindsWith declared sizes marks) heap made owners taken counted widths slots
 
 -- of a memory; headers are ticked among as many zeros as a heap has words at most
 unfoldable pub passes : State → List ℕ → Bool

@@ -5,7 +5,7 @@ ghost use mathlib.Core.Path.{_≡_};
 ghost use mathlib.Core.List.{[]};
 ghost use Rattle.lists.specs.Lists.{joined, upTo};
 ghost use Rattle.model.specs.Model.{audit};
-ghost use Rattle.kinds.specs.Kinds.{kindsOf};
+ghost use Rattle.kinds.specs.Kinds.{kindsWith};
 ghost use Rattle.regions.specs.Laws.Steps.{leavings};
 ghost use Rattle.pages.specs.Pages.{pageCountIn};
 ghost use Rattle.outcomes.specs.Store.{targetsIn};
@@ -41,7 +41,7 @@ fn leave_one<'a>(
     counts: &mut [u32],
     j: u32,
 )
-    ensures { λ _. ⌜ now (counts .exit) ≡ leavings (now (counts .entry)) (wordTags (kindsOf declared (now (sizes .entry)) (now (marks .entry))) (now (heap .entry)) (now (owners .entry)) (now (taken .entry)) j) ⌝ }
+    ensures { λ _. ⌜ now (counts .exit) ≡ leavings (now (counts .entry)) (wordTags (kindsWith declared (now (sizes .entry)) (now (marks .entry))) (now (heap .entry)) (now (owners .entry)) (now (taken .entry)) j) ⌝ }
 {
     let t = pages::owner_at(owners, j);
     if t == 0 {
@@ -62,7 +62,7 @@ fn leave_pages<'a>(
     taken: &'a [u8],
     counts: &mut [u32],
 )
-    ensures { λ _. ⌜ now (counts .exit) ≡ leavings (now (counts .entry)) (joined (wordTags (kindsOf declared (now (sizes .entry)) (now (marks .entry))) (now (heap .entry)) (now (owners .entry)) (now (taken .entry))) (upTo (pageCountIn made))) ⌝ }
+    ensures { λ _. ⌜ now (counts .exit) ≡ leavings (now (counts .entry)) (joined (wordTags (kindsWith declared (now (sizes .entry)) (now (marks .entry))) (now (heap .entry)) (now (owners .entry)) (now (taken .entry))) (upTo (pageCountIn made))) ⌝ }
 {
     let n = pages::page_count(made);
     let mut j: u32 = 0;
@@ -110,7 +110,7 @@ fn counts_fit<'a>(
     names: &'a [u32],
     counts: &mut [u32],
 ) -> bool
-    ensures { λ r. ⌜ r ≡ countsFit (now (names .entry)) (now (counts .entry)) (kindsOf declared (now (sizes .entry)) (now (marks .entry))) (now (heap .entry)) made (now (owners .entry)) (now (taken .entry)) counted (now (widths .entry)) (now (slots .entry)) ⌝ }
+    ensures { λ r. ⌜ r ≡ countsFit (now (names .entry)) (now (counts .entry)) (kindsWith declared (now (sizes .entry)) (now (marks .entry))) (now (heap .entry)) made (now (owners .entry)) (now (taken .entry)) counted (now (widths .entry)) (now (slots .entry)) ⌝ }
 {
     leave_pages(declared, sizes, marks, heap, made, owners, taken, counts);
     leave_frames(widths, slots, owners, counts, counted);

@@ -12,7 +12,7 @@ use Rattle.regions.specs.Regions.{entryIn, entryOf, tagOf, subregionsIn, subreg
 use Rattle.regions.specs.Laws.Counts.{Counts}
 use Rattle.regions.specs.Laws.Steps.{enterings, leavings}
 use Rattle.regions.specs.Laws.Recount.{enter-leave-recount}
-use Rattle.pages.specs.Pages.{pagesWith, freed}
+use Rattle.pages.specs.Pages.{pageCountIn, pageCount, pagesWith, ownersTo, freed}
 use Rattle.objects.specs.Objects.{freeWordsOf, outOf}
 use Rattle.outcomes.specs.Store.{Store, frames, kinds, regions, pages, ledIn, ledInto}
 use Rattle.outcomes.specs.Outcome.{store, checks, refusal, recounted, outgoing, newlyIn, newlyCounted, deleted}
@@ -36,7 +36,7 @@ module _ (S : Store) (r : ℕ) where
   delete-refused = one-region S tests r
 
   -- what is left of a region with entry e: m raised, the owners os and the counts cs put back, the entry given up
-  pub delete-leaves : (e m : ℕ) (os cs : List ℕ) → e ≡ entry → m ≡ topIn ((frames S) .standing) → Counts ((regions S) .counts) → os ≡ freed (pages S) (e + 1) .owners
+  pub delete-leaves : (e m : ℕ) (os cs : List ℕ) → e ≡ entry → m ≡ topIn ((frames S) .standing) → Counts ((regions S) .counts) → os ≡ ownersTo ((pages S) .owners) (e + 1) (pageCountIn ((pages S) .made))
       → let f = frames S in cs ≡ enterings (leavings ((regions S) .counts) (outOf ((pages S) .owners) (e + 1) (freeWordsOf (kinds S) (S .heap) (pages S) (e + 1)))) (newlyIn (f .standing) (f .counted) (f .widths) (f .slots) ((pages S) .owners))
       → store
       (record {
@@ -47,5 +47,5 @@ module _ (S : Store) (r : ℕ) where
       })
       (S .heap)
       ≡ deleted S r
-  unfolding deleted recounted outgoing newlyCounted entryOf tagOf freed raised topFrame
+  unfolding deleted recounted outgoing newlyCounted entryOf tagOf freed raised topFrame pageCount
   delete-leaves e m os cs q em fits eo ec = rw (em, eo, ec, enter-leave-recount (regions S) fits, ← q)

@@ -6,10 +6,10 @@ ghost use mathlib.Core.List.{[]};
 ghost use lib.ListN.{length, getD};
 ghost use Rattle.model.specs.Model.{delete};
 ghost use Rattle.model.specs.Calls.{reason};
-ghost use Rattle.kinds.specs.Kinds.{kindsOf};
+ghost use Rattle.kinds.specs.Kinds.{kindsWith};
 ghost use Rattle.regions.specs.Regions.{subregionsIn};
 ghost use Rattle.regions.specs.Laws.Steps.{enterings, leavings};
-ghost use Rattle.pages.specs.Pages.{pagesWith, pagesIn, freed};
+ghost use Rattle.pages.specs.Pages.{pageCountIn, pagesWith, pagesIn, ownersTo};
 ghost use Rattle.objects.specs.Objects.{freeWordsOf, outOf};
 ghost use Rattle.outcomes.specs.Store.{ledIn};
 ghost use Rattle.outcomes.specs.Outcome.{Outcome, answerOf, store, newlyIn};
@@ -98,7 +98,7 @@ fn give_pages<'a>(
     tag: u32,
 ) -> u32
     requires { ⌜ length (now owners) ≡ 256 ⌝ }
-    ensures { λ r. ⌜ (r ≡ pagesIn made (now (owners .entry)) tag) × (now (owners .exit) ≡ freed (pagesWith made (now (owners .entry)) (now (taken .entry))) tag .owners) × (now (counts .exit) ≡ leavings (now (counts .entry)) (outOf (now (owners .entry)) tag (freeWordsOf (kindsOf declared (now (sizes .entry)) (now (marks .entry))) (now (heap .entry)) (pagesWith made (now (owners .entry)) (now (taken .entry))) tag))) ⌝ }
+    ensures { λ r. ⌜ (r ≡ pagesIn made (now (owners .entry)) tag) × (now (owners .exit) ≡ ownersTo (now (owners .entry)) tag (pageCountIn made)) × (now (counts .exit) ≡ leavings (now (counts .entry)) (outOf (now (owners .entry)) tag (freeWordsOf (kindsWith declared (now (sizes .entry)) (now (marks .entry))) (now (heap .entry)) (pagesWith made (now (owners .entry)) (now (taken .entry))) tag))) ⌝ }
 {
     let n = pages::page_count(made);
     let mut number: u32 = 0;

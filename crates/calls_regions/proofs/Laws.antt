@@ -14,14 +14,14 @@ use Rattle.lists.specs.Laws.Tests.{neither, by-test}
 use Rattle.model.specs.Model.{Answer, allocate, gives}
 use Rattle.model.specs.Calls.{reason, _yields_}
 use Rattle.model.specs.Laws.Passed.{all-passed}
-use Rattle.kinds.specs.Kinds.{kindCount, kindsOf, sizeIn, sizeOf, wrongMarks}
+use Rattle.kinds.specs.Kinds.{kindCount, sizeIn, sizeOf, wrongMarks}
 use Rattle.regions.specs.Regions.{entryIn, entryOf, isLive, newestAt, oldestAt, withPage}
 use Rattle.pages.specs.declared.Pages.{Pages}
 use Rattle.pages.specs.Pages.{pageCount, takenAt, isFree, firstFree, pagesOf, withTaken}
 use Rattle.pages.specs.Laws.Free.{first-none, first-some, first-free}
-use Rattle.outcomes.specs.Store.{Store, frames, kinds, regions, pages, size, roomy}
+use Rattle.outcomes.specs.Store.{Store, frames, kinds, regions, pages, size, roomy, roomyIn}
 use Rattle.outcomes.specs.Outcome.{Chosen, store, withRegions, withPages, withHeap, refusal, checks, dead, fillSlot, allocated, Accepted, Outcome}
-use Rattle.outcomes.specs.Laws.Values.{size-most}
+use Rattle.kinds.specs.Laws.Marks.{size-most}
 use Rattle.outcomes.specs.Laws.Steps.{by-effect}
 use Rattle.checks.specs.Checks.{orElse}
 use Rattle.checks.specs.Laws.Tests.{top, one-slot, else-first, else-next}
@@ -50,8 +50,7 @@ object-passed declared i kind v g e z =
     let t = all-passed (allocateTests declared i kind v) refl (sym e ∙ z) in (ltb-true i 64 (not-false _ (t .0)), eqb-false v 0 (t .1 .1 .0))
 
 pub size-small : (declared : ℕ) (sizes : List ℕ) (n m : ℕ) → m ≡ sizeIn declared sizes n → m ≤ 16
-unfolding sizeOf
-size-small declared sizes n m e = rw e (size-most (kindsOf declared sizes []) n)
+size-small declared sizes n m e = rw e (size-most declared sizes n)
 
 free-none : (p : Pages) → eqb (freePlace (p .made) (p .owners)) 0 ≡ eqb (pagesOf p 0) 0
 unfolding freePlace firstFree pageCount
@@ -83,23 +82,23 @@ module _ (S : Store) (i n : ℕ) where
   -- no place is what 13 asks
   pub place-none : eqb place 0 ≡ (not (roomy S i n) && eqb (pagesOf (pages S) 0) 0)
   unfolding placeFor roomy newestAt takenAt
-  place-none = go noRoom
+  place-none = go (roomyIn ((pages S) .taken) newest n)
     where
-      go : (b : Bool) → eqb (pick b lowest behind) 0 ≡ (not (not b) && eqb (pagesOf (pages S) 0) 0)
-      go true = free-none (pages S)
-      go false = ne-eqb behind 0 (λ q. omega arith)
+      go : (b : Bool) → eqb (pick b behind lowest) 0 ≡ (not b && eqb (pagesOf (pages S) 0) 0)
+      go true = ne-eqb behind 0 (λ q. omega arith)
+      go false = free-none (pages S)
 
   abbrev start : ℕ → ℕ
   start j = pick (roomy S i n) (takenAt (pages S) j) 0
 
   -- a place is on a page that may be chosen
   pub place-some : 0 < n → place ≢ 0 → (j : ℕ) × Chosen S i n j × (start j < 64) × (place ≡ 64 * j + start j + 1)
-  unfolding placeFor roomy freePlace newestAt takenAt firstFree pageCount
+  unfolding placeFor roomy freePlace newestAt takenAt firstFree pageCount roomyIn
   place-some h = go noRoom refl
     where
-      go : (b : Bool) → noRoom ≡ b → pick b lowest behind ≢ 0
+      go : (b : Bool) → noRoom ≡ b → pick (not b) behind lowest ≢ 0
           → (j : ℕ) × (pick (not b) (eqb newest (j + 1)) (isFree (pages S) j) ≡ true) × (pick (not b) (takenAt (pages S) j) 0 < 64)
-          × (pick b lowest behind ≡ 64 * j + pick (not b) (takenAt (pages S) j) 0 + 1)
+          × (pick (not b) behind lowest ≡ 64 * j + pick (not b) (takenAt (pages S) j) 0 + 1)
       go true q z =
           by-test (ltb (firstFree (pages S)) (pageCount (pages S)))
           (λ e. (firstFree (pages S), first-free (pages S) (ltb-true _ _ e), omega arith, rw e (omega arith)))

@@ -1,10 +1,10 @@
 -- Where a region's next object stands, over the numbers and lists that say it (document 01, The store, on objects). Assumes nothing.
-use mathlib.Core.Bool.{_||_}
 use mathlib.Core.List.{List}
 use Prim.Native.Nat.{ℕ, _+_, _-_, _*_}
-use lib.Dec.{eqb, ltb, leb}
+use lib.Dec.{eqb, ltb}
 use Rattle.lists.specs.Lists.{pick}
 use Rattle.pages.specs.Pages.{pageCountIn, takenIn, firstFreeIn}
+use Rattle.outcomes.specs.Store.{roomyIn}
 
 -- a pointer to the start of the lowest free page, 0 where none is free
 unfoldable pub freePlace : ℕ → List ℕ → ℕ
@@ -13,7 +13,7 @@ freePlace made owners = pick (ltb (firstFreeIn made owners) (pageCountIn made)) 
 -- a pointer to the place of an object of n words, its header too, made next for a region whose newest page, plus 1, is q: behind what is taken of that page,
 -- or on a free page where it has none or the object does not fit there; 0 where there is no such page
 unfoldable pub placeFor : ℕ → List ℕ → List ℕ → ℕ → ℕ → ℕ
-placeFor made owners taken q n = pick (eqb q 0 || leb 65 (takenIn taken (q - 1) + n)) (freePlace made owners) (64 * (q - 1) + takenIn taken (q - 1) + 1)
+placeFor made owners taken q n = pick (roomyIn taken q n) (64 * (q - 1) + takenIn taken (q - 1) + 1) (freePlace made owners)
 
 -- a region's oldest object once v is made, where it was o; 0 where there was none
 abbrev pub oldestWith : ℕ → ℕ → ℕ

@@ -3,8 +3,8 @@
 use mathlib.Core.Path.{_≡_, refl, sym, ap, ap₂, _∙_}
 use mathlib.Core.Bool.{Bool, true, false, not, _&&_}
 use mathlib.Core.List.{List, [], _∷_}
-use mathlib.Core.Logic.{inl, _≢_}
-use Prim.Native.Nat.{ℕ, _+_, _<_}
+use mathlib.Core.Logic.{inl}
+use Prim.Native.Nat.{ℕ, _+_}
 use native.Mathlib.Omega.{arith}
 use lib.Dec.{eqb, leb}
 use lib.ListN.{set}
@@ -16,20 +16,23 @@ use Rattle.model.specs.Calls.{reason, _yields_}
 use Rattle.frames.specs.Frames.{slotIn, slotAt, topIn, topFrame}
 use Rattle.kinds.specs.Kinds as Kinds
 use Rattle.kinds.specs.Kinds.{sizeOf, sizeIn, markAt, markIn, allDataIn}
-use Rattle.regions.specs.Regions.{nameOf, parentAt, moved, withCounts, recount}
-use Rattle.regions.specs.Laws.Steps.{entering, leaving, enter-moved, leave-moved}
-use Rattle.regions.specs.Laws.Counts.{Counts, moved-counts, moved-moved, moved-come-skip, moved-gone-skip}
+use Rattle.regions.specs.declared.Regions.{Regions}
+use Rattle.regions.specs.Regions.{moved, withCounts, recount, nameOf, parentAt}
+use Rattle.regions.specs.Laws.Steps.{steps, entering, leaving}
+use Rattle.regions.specs.Laws.Counts.{Counts, moved-come-skip, moved-gone-skip}
+use Rattle.regions.specs.Laws.Recount.{enter-leave-recount}
 use Rattle.pages.specs.Pages.{ownerIn, ownerOf}
 use Rattle.objects.specs.Objects.{kindOf, wordCount, markOf, wordAt}
 use Rattle.objects.specs.Parts.{objectOf, headerIn, wordIn}
-use Rattle.objects.specs.Laws.Words.{size-most, object-header, object-word}
+use Rattle.kinds.specs.Laws.Marks.{size-most}
+use Rattle.objects.specs.Laws.Words.{object-header, object-word}
 use Rattle.state.specs.declared.State.{State}
-use Rattle.outcomes.specs.Store.{Store, frames, kinds, regions, pages, slot, breaks}
+use Rattle.outcomes.specs.Store.{Store, frames, kinds, regions, pages, slot, breaks, breaksIn}
 use Rattle.outcomes.specs.Outcome.{store, refusal, checks, noWord, isData, allData, withRegions, withHeap, pointed, writeWord, recounted, countedIn}
 use Rattle.outcomes.specs.Laws.Steps.{reason-append}
 use Rattle.checks.specs.Checks.{orElse}
 use Rattle.checks.specs.Laws.Tests.{top, one-slot, two-slots}
-use Rattle.calls_words.specs.Words.{wordTests, pointerRefusal, dataRefusal, setRefusal, breaksIn, countedTag, tagLeft, tagEntered}
+use Rattle.calls_words.specs.Words.{wordTests, pointerRefusal, dataRefusal, setRefusal, countedTag, tagLeft, tagEntered}
 
 else-else : (a b c : ℕ) → orElse (orElse a b) c ≡ orElse a (orElse b c)
 else-else a b c = by-test (eqb a 0) (λ e. rw e) (λ e. rw (e, e))
@@ -76,7 +79,7 @@ module _ (S : Store) (s : ℕ) where
 
   -- the mark's rule by the parts that it reads
   breaks-in : (w x : ℕ) → breaks S held w x ≡ breaksIn ((regions S) .names) ((regions S) .parents) (mark w) (ownerIn ((pages S) .owners) held) x (ownerIn ((pages S) .owners) x)
-  unfolding breaks breaksIn ownerOf markOf markAt nameOf parentAt
+  unfolding breaks ownerOf markOf markAt breaksIn nameOf parentAt
   breaks-in w x = rw (object-header (S .heap) held)
 
 -- set pointer's tests by the parts that they read
@@ -104,25 +107,24 @@ pub set-read : (declared : ℕ) (sizes marks names parents owners heap : List �
 set-read declared sizes marks names parents owners heap v w x e =
     word-read declared sizes heap v w _ (sym (else-else (reason (wordTests declared sizes (objectOf heap v) v w)) (reason (eqb (markIn marks (headerIn (objectOf heap v)) w) 0 yields 16 ∷ [])) _) ∙ e)
 
--- leaving one count and then entering another is one move
-counts-moved : (cs : List ℕ) (k h a b : ℕ) → moved (moved cs [] (countedTag k h a ∷ [])) (countedTag k h b ∷ []) []
-    ≡ moved cs (pick (eqb k 1 && not (eqb b h)) (b ∷ []) []) (pick (eqb k 1 && not (eqb a h)) (a ∷ []) [])
-unfolding countedTag
-counts-moved cs k h a b =
-    moved-moved cs [] (countedTag k h a ∷ []) (countedTag k h b ∷ []) [] ∙ go (eqb k 1 && not (eqb b h)) (eqb k 1 && not (eqb a h))
+-- leaving one count and then entering another, by the regions that the outcome names
+counted-recount : (g : Regions) (k h a b : ℕ) → recount g (countedTag k h b ∷ []) (countedTag k h a ∷ []) ≡ recount g (pick (eqb k 1 && not (eqb b h)) (b ∷ []) []) (pick (eqb k 1 && not (eqb a h)) (a ∷ []) [])
+unfolding countedTag recount
+counted-recount g k h a b = ap (withCounts g) (go (eqb k 1 && not (eqb b h)) (eqb k 1 && not (eqb a h)))
   where
+    cs : List ℕ
+    cs = g .counts
+
     go : (p q : Bool) → moved cs (pick p b 0 ∷ []) (pick q a 0 ∷ []) ≡ moved cs (pick p (b ∷ []) []) (pick q (a ∷ []) [])
     go true true = refl
     go true false = moved-gone-skip cs (b ∷ []) [] 0 (inl refl)
     go false true = moved-come-skip cs [] (a ∷ []) 0 (inl refl)
     go false false = moved-come-skip cs [] (0 ∷ []) 0 (inl refl) ∙ moved-gone-skip cs [] [] 0 (inl refl)
 
-set-counts : (cs : List ℕ) → Counts cs → (k h a b : ℕ) → entering (leaving cs (countedTag k h a)) (countedTag k h b)
-    ≡ moved cs (pick (eqb k 1 && not (eqb b h)) (b ∷ []) []) (pick (eqb k 1 && not (eqb a h)) (a ∷ []) [])
-set-counts cs fits k h a b =
-    ap (λ c. entering c (countedTag k h b)) (leave-moved cs (countedTag k h a) fits)
-    ∙ enter-moved (moved cs [] (countedTag k h a ∷ [])) (countedTag k h b) (moved-counts cs [] (countedTag k h a ∷ []))
-    ∙ counts-moved cs k h a b
+set-recount : (g : Regions) → Counts (g .counts) → (k h a b : ℕ) → withCounts g (entering (leaving (g .counts) (countedTag k h a)) (countedTag k h b))
+    ≡ recount g (pick (eqb k 1 && not (eqb b h)) (b ∷ []) []) (pick (eqb k 1 && not (eqb a h)) (a ∷ []) [])
+unfolding steps
+set-recount g fits k h a b = enter-leave-recount g fits (countedTag k h b ∷ []) (countedTag k h a ∷ []) ∙ counted-recount g k h a b
 
 -- what an accepted set pointer leaves: v and x are what the slots hold, `out` and `into` the tags whose counts change
 module _ (s : State) (heap : List ℕ) (v w x : ℕ) where
@@ -130,8 +132,8 @@ module _ (s : State) (heap : List ℕ) (v w x : ℕ) where
       → out ≡ tagLeft (s .kinds .marks) (s .pages .owners) (objectOf heap v) v w → into ≡ tagEntered (s .kinds .marks) (s .pages .owners) (objectOf heap v) v w x
       → cs ≡ entering (leaving (s .regions .counts) out) into → words ≡ set heap (v + w) x
       → withHeap (withRegions (store s heap) (withCounts (s .regions) cs)) words ≡ pointed (store s heap) v w x
-  unfolding pointed writeWord recounted recount countedIn ownerOf markOf markAt
+  unfolding pointed writeWord recounted countedIn ownerOf markOf markAt
   set-leaves out into cs words fits read a b c d =
       let m = markIn (s .kinds .marks) (kindOf heap v) w in
       let h = ownerIn (s .pages .owners) v in
-      rw (d, c, a, b, read, object-header heap v, set-counts (s .regions .counts) fits m h (ownerIn (s .pages .owners) (wordAt heap v w)) (ownerIn (s .pages .owners) x))
+      rw (d, c, a, b, read, object-header heap v, set-recount (s .regions) fits m h (ownerIn (s .pages .owners) (wordAt heap v w)) (ownerIn (s .pages .owners) x))

@@ -1,18 +1,16 @@
 -- The tests that calls on words run after those of their slots, in document 01's order, and the counts that a set pointer changes, over the numbers and lists that
 -- they read. An object is given as the part of the heap that begins at its header.
 -- Assumes nothing.
-use mathlib.Core.Bool.{Bool, not, _&&_, _||_}
+use mathlib.Core.Bool.{Bool, not, _&&_}
 use mathlib.Core.List.{List, [], _∷_}
-use Prim.Native.Nat.{ℕ, _-_}
+use Prim.Native.Nat.{ℕ}
 use lib.Dec.{eqb, leb}
-use lib.ListN.{getD}
 use Rattle.lists.specs.Lists.{pick}
-use Rattle.model.specs.Model.{rule}
 use Rattle.model.specs.Calls.{reason, _yields_}
 use Rattle.kinds.specs.Kinds.{sizeIn, markIn}
-use Rattle.regions.specs.Regions.{nameIn}
 use Rattle.pages.specs.Pages.{ownerIn}
 use Rattle.objects.specs.Parts.{headerIn, wordIn}
+use Rattle.outcomes.specs.Store.{breaksIn}
 use Rattle.checks.specs.Checks.{orElse}
 
 -- word w of the object that v leads to
@@ -25,10 +23,6 @@ pointerRefusal declared sizes marks object v w = orElse (reason (wordTests decla
 
 abbrev pub dataRefusal : ℕ → List ℕ → List ℕ → List ℕ → ℕ → ℕ → ℕ
 dataRefusal declared sizes marks object v w = orElse (reason (wordTests declared sizes object v w)) (reason (not (eqb (markIn marks (headerIn object) w) 0) yields 16 ∷ []))
-
--- x, which leads into the region with tag t, breaks the mark m of a word of the region with tag h, by the names and the regions above
-unfoldable pub breaksIn : List ℕ → List ℕ → ℕ → ℕ → ℕ → ℕ → Bool
-breaksIn names parents m h x t = not (eqb x 0 || rule m (nameIn names t) (nameIn names h) (nameIn names (getD parents (h - 1) 0)))
 
 -- why word w of the object that v leads to cannot get x; 0 where it can
 abbrev pub setRefusal : ℕ → List ℕ → List ℕ → List ℕ → List ℕ → List ℕ → List ℕ → ℕ → ℕ → ℕ → ℕ

@@ -9,8 +9,9 @@ ghost use lib.ListN.{set};
 ghost use Rattle.model.specs.Model.{load, setPointer, put, get, view};
 ghost use Rattle.model.specs.Calls.{reason};
 ghost use Rattle.regions.specs.Laws.Steps.{entering, leaving};
+ghost use Rattle.outcomes.specs.Store.{breaksIn};
 ghost use Rattle.outcomes.specs.Outcome.{Outcome, answerOf, viewAnswer, store, refusal};
-ghost use Rattle.calls_words.specs.Words.{wordTests, pointerRefusal, dataRefusal, setRefusal, breaksIn, countedTag, tagLeft, tagEntered};
+ghost use Rattle.calls_words.specs.Words.{wordTests, pointerRefusal, dataRefusal, setRefusal, countedTag, tagLeft, tagEntered};
 
 // 14 and 15 for word w of the object that v leads to.
 fn word_refusal(declared: u32, sizes: &[u8], object: &[u32], v: u32, w: u32) -> u32
@@ -124,7 +125,7 @@ pub fn put(s: State, heap: &mut [u32], slot: u32, w: u32, value: u32) -> Reply
     if h != 0 {
         return checks::refused(h);
     }
-    cells::store(heap, (v as usize) + (w as usize), value);
+    write(heap, v, w, value);
     checks::gives(0, 0, 0, 0)
 }
 
@@ -268,7 +269,7 @@ fn tags_of<'a>(marks: &'a [u8], owners: &'a [u8], object: &[u32], v: u32, w: u32
 }
 
 // The counts of a set pointer.
-fn recount(counts: &mut [u32; 64], leave: u32, enter: u32)
+fn move_counts(counts: &mut [u32; 64], leave: u32, enter: u32)
     ensures { λ _. ⌜ now (counts .exit) ≡ entering (leaving (now (counts .entry)) leave) enter ⌝ }
 {
     regions::leave(counts, leave);
@@ -318,7 +319,7 @@ pub fn set_pointer(s: State, heap: &mut [u32], slot: u32, w: u32, value: u32) ->
     }
     let m = tags_of(&t.kinds.marks, &t.pages.owners, object, v, w, x);
     regions::counts_shaped(t.regions);
-    recount(&mut t.regions.counts, m.leave, m.enter);
+    move_counts(&mut t.regions.counts, m.leave, m.enter);
     write(heap, v, w, x);
     Done {
         state: t,

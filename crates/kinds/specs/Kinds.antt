@@ -18,8 +18,8 @@ unfoldable pub kindCount : Kinds → ℕ
 kindCount k = kindCountIn (k .declared)
 
 -- the kinds with these parts
-abbrev pub kindsOf : ℕ → List ℕ → List ℕ → Kinds
-kindsOf declared sizes marks = record { declared = declared; sizes = sizes; marks = marks }
+abbrev pub kindsWith : ℕ → List ℕ → List ℕ → Kinds
+kindsWith declared sizes marks = record { declared = declared; sizes = sizes; marks = marks }
 
 -- how many words an object of kind n has, of which the state has room for 16 marks; 0 where there is no such kind
 unfoldable pub sizeIn : ℕ → List ℕ → ℕ → ℕ

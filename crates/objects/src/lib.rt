@@ -1,10 +1,9 @@
 // Objects in the heap that a call is given. Who reads an object's kind, mark or words gets the part of the heap that begins at its header.
 ghost use mathlib.Core.Path.{_≡_};
 ghost use mathlib.Core.List.{[], _∷_};
-ghost use Rattle.lists.specs.Lists.{joined};
-ghost use Rattle.kinds.specs.Kinds.{kindsOf, sizeIn, markIn};
+ghost use Rattle.kinds.specs.Kinds.{kindsWith, sizeIn, markIn};
 ghost use Rattle.regions.specs.Laws.Steps.{leavings};
-ghost use Rattle.objects.specs.Objects.{headersTo, freeWords, outOf};
+ghost use Rattle.objects.specs.Objects.{freeWordsTo, outOf};
 ghost use Rattle.objects.specs.Parts.{partAt, objectOf, headerIn, wordIn, fitting, marked};
 
 // The part that begins at place `at`: 17 words, as far as the heap goes.
@@ -50,7 +49,7 @@ pub fn word_at(object: &[u32], w: u32) -> u32
 }
 
 // How many words the object has; 0 where there is none, or it takes more than n words with its header.
-pub fn size_in(declared: u32, sizes: &[u8], object: &[u32], n: usize) -> u32
+pub fn fitting(declared: u32, sizes: &[u8], object: &[u32], n: usize) -> u32
     ensures { λ r. ⌜ r ≡ fitting declared (now (sizes .entry)) (now (object .entry)) n ⌝ }
 {
     let s = word_count(declared, sizes, object);
@@ -92,14 +91,14 @@ pub fn leave_page<'a>(
     counts: &mut [u32],
     own: u32,
 )
-    ensures { λ _. ⌜ now (counts .exit) ≡ leavings (now (counts .entry)) (outOf (now (owners .entry)) own (joined (freeWords (kindsOf declared (now (sizes .entry)) (now (marks .entry))) (now (heap .entry))) (headersTo (kindsOf declared (now (sizes .entry)) (now (marks .entry))) (now (heap .entry)) j n))) ⌝ }
+    ensures { λ _. ⌜ now (counts .exit) ≡ leavings (now (counts .entry)) (outOf (now (owners .entry)) own (freeWordsTo (kindsWith declared (now (sizes .entry)) (now (marks .entry))) (now (heap .entry)) j n)) ⌝ }
 {
     let mut at = 64 * (j as usize);
     let end = at + (n as usize);
     let mut i: u32 = 0;
     while i < 64 {
         let object = part_at(heap, at);
-        let s = size_in(declared, sizes, object, end - at);
+        let s = fitting(declared, sizes, object, end - at);
         if s == 0 {
             break;
         }

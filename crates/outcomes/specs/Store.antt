@@ -5,6 +5,7 @@ use mathlib.Core.Bool.{Bool, not, _||_}
 use mathlib.Core.List.{List, map}
 use Prim.Native.Nat.{ℕ, _+_, _-_, _%_}
 use lib.Dec.{eqb, leb}
+use lib.ListN.{getD}
 use Rattle.lists.specs.Lists.{sum, any, from, upTo, times, among}
 use Rattle.model.specs.Model.{rule}
 use Rattle.frames.specs.declared.Frames.{Frames}
@@ -12,9 +13,9 @@ use Rattle.frames.specs.Frames.{frameCountIn, topFrame, widthIn, slotIn, slotAt
 use Rattle.kinds.specs.declared.Kinds.{Kinds}
 use Rattle.kinds.specs.Kinds.{sizeOf}
 use Rattle.regions.specs.declared.Regions.{Regions}
-use Rattle.regions.specs.Regions.{nameOf, parentAt, newestAt, countAt}
+use Rattle.regions.specs.Regions.{nameIn, newestAt, countAt}
 use Rattle.pages.specs.declared.Pages.{Pages}
-use Rattle.pages.specs.Pages.{takenAt, ownerIn, ownerOf}
+use Rattle.pages.specs.Pages.{takenIn, ownerIn, ownerOf}
 use Rattle.objects.specs.Objects.{markOf}
 use Rattle.state.specs.declared.State.{State}
 
@@ -45,10 +46,6 @@ targetsIn widths slots owners i = map (λ s. ownerIn owners (slotIn slots i s)) 
 unfoldable pub slotTargets : Store → ℕ → List ℕ
 slotTargets S i = targetsIn ((frames S) .widths) ((frames S) .slots) ((pages S) .owners) i
 
--- how many slots of frame i lead into the region with tag t
-unfoldable pub slotsInto : Store → ℕ → ℕ → ℕ
-slotsInto S t i = times t (slotTargets S i)
-
 -- the uncounted frames: those from m on (document 01, The calls)
 abbrev pub uncountedIn : ℕ → ℕ → List ℕ
 uncountedIn standing counted = from counted (frameCountIn standing - counted)
@@ -60,8 +57,8 @@ slotsBeyondIn standing counted widths slots owners t = sum (λ i. times t (targe
 unfoldable pub slotsBeyond : Store → ℕ → ℕ
 slotsBeyond S t = let f = frames S in slotsBeyondIn (f .standing) (f .counted) (f .widths) (f .slots) ((pages S) .owners) t
 
--- the number of outside pointers that report gives of the region at entry i: its stored count has those in words and counted frames, and the others stand in
--- uncounted frames (document 01, The store). Modulo 2^32, which on audited memory no such number reaches
+-- the number of outside pointers that report gives of the region at entry i. On audited memory its stored count has those in words and in counted frames, and the
+-- others stand in uncounted frames; so it is the number that there are (History, `outside`), and below 2^32
 unfoldable pub outsideOf : Store → ℕ → ℕ
 outsideOf S i = (countAt (regions S) i + slotsBeyond S (i + 1)) % 4294967296
 
@@ -72,19 +69,21 @@ ledIn standing counted widths slots owners t = any (λ i. among t (targetsIn wid
 unfoldable pub ledInto : Store → ℕ → Bool
 ledInto S t = let f = frames S in ledIn (f .standing) (f .counted) (f .widths) (f .slots) ((pages S) .owners) t
 
+-- x, which leads into the region with tag t, breaks the mark m of a word of the region with tag h, by the names and the regions above
+unfoldable pub breaksIn : List ℕ → List ℕ → ℕ → ℕ → ℕ → ℕ → Bool
+breaksIn names parents m h x t = not (eqb x 0 || rule m (nameIn names t) (nameIn names h) (nameIn names (getD parents (h - 1) 0)))
+
 -- the value x breaks the mark of word w of the object that v leads to (document 01, The store, on marks)
 unfoldable pub breaks : Store → ℕ → ℕ → ℕ → Bool
-breaks S v w x =
-    let r = regions S in
-    let h = ownerOf (pages S) v in
-    not (eqb x 0 || rule (markOf (kinds S) (S .heap) v w) (nameOf r (ownerOf (pages S) x)) (nameOf r h) (nameOf r (parentAt r (h - 1))))
+breaks S v w x = breaksIn ((regions S) .names) ((regions S) .parents) (markOf (kinds S) (S .heap) v w) (ownerOf (pages S) v) x (ownerOf (pages S) x)
 
 -- the words that an object of kind k takes, its header too
 unfoldable pub size : Store → ℕ → ℕ
 size S k = 1 + sizeOf (kinds S) k
 
--- the region at entry i has a newest page, and n words more fit there
+-- the region at entry i has a newest page, and n words more fit there; q is that page, plus 1
+unfoldable pub roomyIn : List ℕ → ℕ → ℕ → Bool
+roomyIn taken q n = not (eqb q 0 || leb 65 (takenIn taken (q - 1) + n))
+
 unfoldable pub roomy : Store → ℕ → ℕ → Bool
-roomy S i n =
-    let p = newestAt (regions S) i in
-    not (eqb p 0 || leb 65 (takenAt (pages S) (p - 1) + n))
+roomy S i n = roomyIn ((pages S) .taken) (newestAt (regions S) i) n

@@ -10,7 +10,7 @@ use lib.Dec.{leb}
 use borrow.Author.Tests.{leb-true}
 use Rattle.lists.specs.Lists.{All, from}
 use Rattle.lists.specs.Laws.Tests.{by-test, by-same, both}
-use Rattle.model.specs.Model.{Call, view, refusedBy}
+use Rattle.model.specs.Model.{view, refusedBy}
 use Rattle.state.specs.declared.Reply.{Reply}
 use Rattle.outcomes.specs.Store.{Store, slot}
 use Rattle.outcomes.specs.Outcome.{Accepted, answerOf, refusal, viewed}

@@ -4,7 +4,7 @@ use mathlib.Core.List.{List, []}
 use native.Mathlib.Omega.{arith}
 use lib.ListN.{length, length-set}
 use borrow.Author.Needs.{needs}
-use Rattle.kinds.specs.Kinds.{kindsOf}
+use Rattle.kinds.specs.Kinds.{kindsWith}
 use Rattle.objects.specs.Objects.{headersTo}
 use Rattle.audit_heap.specs.Heap.{ticked}
 use Rattle.audit_heap.specs.Laws.Walks.{left, left-none, left-stop, left-next}
@@ -14,7 +14,7 @@ use Rattle.audit_heap.proofs.tick_page.Tie as tie
 -- when the headers left are ticked too, all are
 abbrev Inv-loop : tie.InvT-loop
 Inv-loop declared sizes heap j n heads₀ at₀ end i₀ heads at i =
-    let k = kindsOf declared sizes [] in
+    let k = kindsWith declared sizes [] in
     (i ≤ 64) × (at ≤ end) × (length heads ≡ length heads₀) × (ticked heads (left k heap at end i) ≡ ticked heads₀ (left k heap at₀ end 0))
 
 abbrev μ-loop : tie.MeasureT-loop
@@ -29,8 +29,8 @@ next :
     let z = c .before .before .before in
     let l = z .before .before .before in
     let a = l .before .before .before .before .args in
-    let k = kindsOf (a .declared) (a .sizes .now) [] in
-    let s = z .size-in .result in
+    let k = kindsWith (a .declared) (a .sizes .now) [] in
+    let s = z .fitting .result in
     let e = 64 * a .j + a .n in
     let hs : List _ = c .store-byte .last .0 in
     (l .loop .at + 1 + s ≤ e) × (length hs ≡ length (l .loop .heads)) × (ticked hs (left k (a .heap .now) (l .loop .at + 1 + s) e (l .loop .i + 1)) ≡ ticked (l .loop .heads) (left k (a .heap .now) (l .loop .at) e (l .loop .i)))
@@ -39,8 +39,8 @@ next c =
     let z = c .before .before .before in
     let l = z .before .before .before in
     let a = l .before .before .before .before .args in
-    let k = kindsOf (a .declared) (a .sizes .now) [] in
-    let t = left-next k (a .heap .now) (l .loop .at) (64 * a .j + a .n) (l .loop .i) _ (rw (z .before .part-at .ensures) at (z .size-in .ensures)) (c .before .before .if1 .left) (omega arith) in
+    let k = kindsWith (a .declared) (a .sizes .now) [] in
+    let t = left-next k (a .heap .now) (l .loop .at) (64 * a .j + a .n) (l .loop .i) _ (rw (z .before .part-at .ensures) at (z .fitting .ensures)) (c .before .before .if1 .left) (omega arith) in
     let h = c .store-byte .ensures in
     (t .0, rw h (simp length-set), rw (t .2, h))
 
@@ -55,15 +55,15 @@ unfolding headersTo ticked
 returns c =
     let l = c .before in
     let a = l .before .before .before .before .args in
-    rw (left-none (kindsOf (a .declared) (a .sizes .now) []) (a .heap .now) (l .loop .at) (64 * a .j + a .n) (l .loop .i) (omega arith)) at (l .loop .inv .3)
+    rw (left-none (kindsWith (a .declared) (a .sizes .now) []) (a .heap .now) (l .loop .at) (64 * a .j + a .n) (l .loop .i) (omega arith)) at (l .loop .inv .3)
 
 returns-2 : tie.Need-returns-2 Inv-loop μ-loop
 unfolding headersTo ticked
 returns-2 c =
     let l = c .before .before .before .before in
     let a = l .before .before .before .before .args in
-    let z = rw (c .before .before .part-at .ensures) at (c .before .size-in .ensures) in
-    rw (left-stop (kindsOf (a .declared) (a .sizes .now) []) (a .heap .now) (l .loop .at) (64 * a .j + a .n) (l .loop .i) _ z (c .if1 .taken)) at (l .loop .inv .3)
+    let z = rw (c .before .before .part-at .ensures) at (c .before .fitting .ensures) in
+    rw (left-stop (kindsWith (a .declared) (a .sizes .now) []) (a .heap .now) (l .loop .at) (64 * a .j + a .n) (l .loop .i) _ z (c .if1 .taken)) at (l .loop .inv .3)
 
 pub tick-page-spec : {M : Type 1} → statement M
 tick-page-spec =

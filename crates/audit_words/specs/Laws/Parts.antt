@@ -9,7 +9,8 @@ use lib.ListN.{getD}
 use Rattle.lists.specs.Laws.Every.{every-below}
 use Rattle.kinds.specs.Kinds.{sizeIn}
 use Rattle.objects.specs.Parts.{partAt}
-use Rattle.objects.specs.Laws.Words.{size-most, part-header, part-word}
+use Rattle.kinds.specs.Laws.Marks.{size-most}
+use Rattle.objects.specs.Laws.Words.{part-header, part-word}
 use Rattle.audit_words.specs.Words.{wordsHold, objectHolds}
 
 pub object-words : (stands : ℕ → Bool) (names owners : List ℕ) (declared : ℕ) (sizes marks heap : List ℕ) (own above q s : ℕ) → s ≡ sizeIn declared sizes (getD heap q 0)

@@ -5,7 +5,7 @@ use lib.ListN.{length}
 use borrow.Author.Needs.{needs}
 use Rattle.lists.specs.Lists.{joined, upTo}
 use Rattle.lists.specs.Laws.UpTo.{joined-next}
-use Rattle.kinds.specs.Kinds.{kindsOf}
+use Rattle.kinds.specs.Kinds.{kindsWith}
 use Rattle.regions.specs.Laws.Steps.{steps, leavings, steps-append, steps-length}
 use Rattle.pages.specs.Pages.{pageCountIn}
 use Rattle.calls_audit.specs.Passes.{wordTags}
@@ -15,7 +15,7 @@ use Rattle.calls_audit.proofs.leave_pages.Tie as tie
 -- the pages passed have left
 abbrev Inv-loop : tie.InvT-loop
 Inv-loop declared sizes marks heap made owners taken counts₀ n j₀ counts j =
-    (n ≡ pageCountIn made) × (j ≤ n) × (counts ≡ leavings counts₀ (joined (wordTags (kindsOf declared sizes marks) heap owners taken) (upTo j)))
+    (n ≡ pageCountIn made) × (j ≤ n) × (counts ≡ leavings counts₀ (joined (wordTags (kindsWith declared sizes marks) heap owners taken) (upTo j)))
 
 abbrev μ-loop : tie.MeasureT-loop
 μ-loop declared sizes marks heap made owners taken counts₀ n j₀ counts j = n - j
@@ -28,7 +28,7 @@ loop-again : tie.Need-loop-again Inv-loop μ-loop
 loop-again c =
     let l = c .before .before .before .before .before in
     let a = l .before .before .before .before .before .before .before .before .args in
-    let t = wordTags (kindsOf (a .declared) (a .sizes .now) (a .marks .now)) (a .heap .now) (a .owners .now) (a .taken .now) in
+    let t = wordTags (kindsWith (a .declared) (a .sizes .now) (a .marks .now)) (a .heap .now) (a .owners .now) (a .taken .now) in
     (l .loop .inv .0, omega arith, c .before .before .leave-one .ensures ∙ rw (l .loop .inv .2, joined-next t (l .loop .j)) (steps-append 4294967295 (a .counts .now) (joined t (upTo (l .loop .j))) (t (l .loop .j))))
 
 returns : tie.Need-returns Inv-loop μ-loop

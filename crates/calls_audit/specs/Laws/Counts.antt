@@ -24,13 +24,13 @@ use Rattle.regions.specs.Laws.Counts.{Counts, moved-at}
 use Rattle.regions.specs.Laws.Steps.{leavings-moved}
 use Rattle.pages.specs.Pages.{pageCount, ownerAt, takenAt, ownerIn, ownerOf}
 use Rattle.objects.specs.Objects.{headersOn, freeWords, freeWordsOn, outOf}
-use Rattle.outcomes.specs.Store.{Store, frames, kinds, regions, pages, targetsIn, slotTargets, slotsInto}
+use Rattle.outcomes.specs.Store.{Store, frames, kinds, regions, pages, targetsIn, slotTargets}
 use Rattle.outcomes.specs.History.{begin, entries, listedRegions, countsExact, outside, uncountedInto, storedCount}
 use Rattle.outcomes.specs.History as history
 use Rattle.outcomes.specs.Sound.{within}
 use Rattle.outcomes.specs.Laws.Values.{page-most}
 use Rattle.outcomes.specs.Laws.Begin.{every-entry, entry-is}
-use Rattle.outcomes.specs.Laws.Pointers.{Ordered, Known, wordsInto, valueAt, frames-length, slots-sum, slots-into, words-into}
+use Rattle.outcomes.specs.Laws.Pointers.{Ordered, Known, wordsInto, valueAt, frames-length, slots-sum, slots-into, words-into, slotsInto}
 use Rattle.audit_state.specs.Fits.{widthsFit}
 use Rattle.audit_heap.specs.Heap.{known, frameLeads, framesLead}
 use Rattle.audit_words.specs.Words.{wordHolds, objectHolds, objectsHold, pageHolds, pagesHold}

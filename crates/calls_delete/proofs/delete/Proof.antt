@@ -6,7 +6,7 @@ use Rattle.regions.specs.Regions.{entryOf, tagOf, withCounts, withoutRegion}
 use Rattle.pages.specs.Pages.{pagesOf}
 use Rattle.outcomes.specs.Outcome.{store, refusal, Accepted}
 use Rattle.outcomes.specs.Laws.Steps.{by-refusal, by-effect}
-use Rattle.checks.specs.Laws.Tests.{entry-most}
+use Rattle.regions.specs.Laws.Entries.{entry-most}
 use Rattle.calls_delete.proofs.Laws.{delete-refused, delete-leaves}
 use Rattle.calls_delete.proofs.delete.Statement.{statement}
 use Rattle.calls_delete.proofs.delete.Tie as tie

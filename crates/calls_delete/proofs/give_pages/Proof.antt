@@ -11,10 +11,10 @@ use borrow.Author.Tests.{eq-eqb, ne-eqb}
 use Rattle.lists.specs.Lists.{count, upTo}
 use Rattle.lists.specs.Laws.Sums.{count-most}
 use Rattle.lists.specs.Laws.UpTo.{count-next, length-upTo}
-use Rattle.kinds.specs.Kinds.{kindsOf}
+use Rattle.kinds.specs.Kinds.{kindsWith}
 use Rattle.regions.specs.Laws.Steps.{steps, leavings, steps-length}
-use Rattle.pages.specs.Pages.{pagesWith, pageCountIn, pageCount, ownerAt, takenAt, pagesIn}
-use Rattle.pages.specs.Laws.Freed.{ownersTo, owners-length, freed-none, freed-all, freed-later, freed-other, freed-own}
+use Rattle.pages.specs.Pages.{ownersTo, pagesWith, pageCountIn, pageCount, ownerAt, takenAt, pagesIn}
+use Rattle.pages.specs.Laws.Freed.{owners-length, freed-none, freed-later, freed-other, freed-own}
 use Rattle.objects.specs.Objects.{freeWordsOf, outOf}
 use Rattle.calls_delete.specs.Laws.Given.{wordsTo, words-other, page-left}
 use Rattle.calls_delete.proofs.give_pages.Statement.{statement}
@@ -27,7 +27,7 @@ own owners tag j = eqb (getD owners j 0) tag
 abbrev Inv-loop : tie.InvT-loop
 Inv-loop declared sizes marks heap made owners₀ taken counts₀ tag n number₀ j₀ owners counts number j =
     (n ≡ pageCountIn made) × (j ≤ n) × (owners ≡ ownersTo owners₀ tag j)
-    × (counts ≡ leavings counts₀ (outOf owners₀ tag (wordsTo (kindsOf declared sizes marks) heap (pagesWith made owners₀ taken) tag j)))
+    × (counts ≡ leavings counts₀ (outOf owners₀ tag (wordsTo (kindsWith declared sizes marks) heap (pagesWith made owners₀ taken) tag j)))
     × (number ≡ count (own owners₀ tag) (upTo j))
 
 abbrev μ-loop : tie.MeasureT-loop
@@ -66,7 +66,7 @@ loop-again c =
     let a = s .args in
     let os = a .owners .now in
     let j = l .loop .j in
-    let k = kindsOf (a .declared) (a .sizes .now) (a .marks .now) in
+    let k = kindsWith (a .declared) (a .sizes .now) (a .marks .now) in
     let p = pagesWith (a .made) os (a .taken .now) in (
       l .loop .inv .0,
       omega arith,
@@ -96,7 +96,7 @@ returns c =
     let l = c .before in
     let a = l .before .before .before .before .before .before .before .before .args in
     let e : pageCountIn (a .made) ≡ l .loop .j = omega arith in
-    (rw e (l .loop .inv .4), l .loop .inv .2 ∙ rw (← e) (freed-all (pagesWith (a .made) (a .owners .now) (a .taken .now)) (a .tag)), rw e (l .loop .inv .3))
+    (rw e (l .loop .inv .4), rw e (l .loop .inv .2), rw e (l .loop .inv .3))
 
 pub give-pages-spec : {M : Type 1} → statement M
 give-pages-spec =

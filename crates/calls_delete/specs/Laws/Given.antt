@@ -14,9 +14,8 @@ use Rattle.lists.specs.Laws.UpTo.{keep-next}
 use Rattle.kinds.specs.declared.Kinds.{Kinds}
 use Rattle.regions.specs.Laws.Steps.{leavings}
 use Rattle.pages.specs.declared.Pages.{Pages}
-use Rattle.pages.specs.Pages.{ownerAt, takenAt}
-use Rattle.pages.specs.Laws.Freed.{ownersTo}
-use Rattle.objects.specs.Objects.{headersTo, headersOn, freeWords, freeWordsOn, outOf}
+use Rattle.pages.specs.Pages.{ownerAt, takenAt, ownersTo}
+use Rattle.objects.specs.Objects.{headersOn, freeWordsOn, outOf, freeWordsTo}
 use Rattle.objects.specs.Laws.Leaving.{left-left, left-freed}
 
 -- what the words marked 1 hold on the pages of the region with tag t among the first n
@@ -41,7 +40,7 @@ module _ (k : Kinds) (heap : List ℕ) (p : Pages) (t n : ℕ) where
 
   -- the counts ds when the words of page n leave, of which m are taken, with the owners os of which the region's pages below n are free
   pub page-left : (m : ℕ) (os cs ds : List ℕ) → os ≡ ownersTo (p .owners) t n → m ≡ takenAt p n → ds ≡ leavings cs (outOf (p .owners) t (wordsTo k heap p t n)) → length (p .owners) ≡ 256 → ownerAt p n ≡ t
-      → leavings ds (outOf os t (joined (freeWords k heap) (headersTo k heap n m))) ≡ leavings cs (outOf (p .owners) t (wordsTo k heap p t (n + 1)))
+      → leavings ds (outOf os t (freeWordsTo k heap n m)) ≡ leavings cs (outOf (p .owners) t (wordsTo k heap p t (n + 1)))
   unfolding freeWordsOn headersOn
   page-left m os cs ds eo em ed e h =
       let ws = freeWordsOn k heap p n in

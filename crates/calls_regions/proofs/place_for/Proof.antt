@@ -1,16 +1,17 @@
 use native.Mathlib.Omega.{arith}
 use borrow.Author.Needs.{needs}
 use borrow.Author.Tests.{eq-eqb, le-leb, lt-leb, ne-eqb}
+use Rattle.outcomes.specs.Store.{roomyIn}
 use Rattle.calls_regions.specs.Places.{placeFor}
 use Rattle.calls_regions.proofs.place_for.Statement.{statement}
 use Rattle.calls_regions.proofs.place_for.Tie as tie
 
 returns : tie.Need-returns
-unfolding placeFor
+unfolding placeFor roomyIn
 returns c = (rw (← c .free-place .ensures .0) (simp (eq-eqb _ _ (c .before .if1 .taken))), omega (arith, c .free-place .ensures .1))
 
 returns-2 : tie.Need-returns-2
-unfolding placeFor
+unfolding placeFor roomyIn
 returns-2 c =
     let t = c .before .before in (
       rw (← t .taken-at .ensures, ← c .free-place2 .ensures .0) (simp (ne-eqb _ _ (t .before .if1 .left), le-leb _ _ (c .before .if2 .taken))),
@@ -18,7 +19,7 @@ returns-2 c =
     )
 
 returns-3 : tie.Need-returns-3
-unfolding placeFor
+unfolding placeFor roomyIn
 returns-3 c = (
   rw (← c .before .taken-at .ensures) (simp (ne-eqb _ _ (c .before .before .if1 .left), lt-leb _ _ (c .if2 .left))),
   omega arith,

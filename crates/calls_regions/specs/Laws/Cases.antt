@@ -14,7 +14,7 @@ use Rattle.kinds.specs.declared.Kinds.{Kinds}
 use Rattle.kinds.specs.Kinds.{kindCount, sizeOf, markAt, withKind, wrongMarks, sizeIn}
 use Rattle.regions.specs.Regions.{nameAt, entryOf, tagOf, isLive, liveCount, levelAt, newestAt, oldestAt, countAt, unused, withRegion, withPage, entryIn, liveIn, unusedIn}
 use Rattle.pages.specs.Pages.{pageCount, ownerAt, takenAt, isFree, pagesOf, wrongLength, withTaken, pagesIn, wrongLengthIn}
-use Rattle.outcomes.specs.Store.{Store, regions, pages, slot, size, roomy}
+use Rattle.outcomes.specs.Store.{Store, regions, pages, slot, size, roomy, roomyIn}
 use Rattle.outcomes.specs.Outcome.{withRegions, withPages, withHeap, badLength, noFrame, lacks, dead, full, namesOut, checks, refusal, fillSlot, allocated, blank}
 use Rattle.outcomes.specs.Examples.{small}
 
@@ -77,5 +77,5 @@ cases =
     ∷ []
 
 pub computed : every (λ p. eqb (p .0) (p .1)) cases ≡ true
-unfolding frameCount topFrame widthAt slotAt putSlot kindCount sizeOf markAt withKind wrongMarks nameAt entryOf tagOf isLive liveCount levelAt newestAt oldestAt countAt unused withRegion withPage pageCount ownerAt takenAt isFree pagesOf wrongLength withTaken slot size roomy badLength noFrame lacks dead full namesOut checks refusal fillSlot allocated blank sizeIn entryIn liveIn unusedIn pagesIn wrongLengthIn
+unfolding frameCount topFrame widthAt slotAt putSlot kindCount sizeOf markAt withKind wrongMarks nameAt entryOf tagOf isLive liveCount levelAt newestAt oldestAt countAt unused withRegion withPage pageCount ownerAt takenAt isFree pagesOf wrongLength withTaken slot size roomy badLength noFrame lacks dead full namesOut checks refusal fillSlot allocated blank sizeIn entryIn liveIn unusedIn pagesIn wrongLengthIn roomyIn
 computed = refl

@@ -6,10 +6,11 @@ use Rattle.model.specs.Model.{report}
 use Rattle.model.specs.Calls.{reason}
 use Rattle.regions.specs.Regions.{entryOf, tagOf, countAt, subregionsOf}
 use Rattle.pages.specs.Pages.{pagesOf}
-use Rattle.outcomes.specs.Store.{Store, slotsBeyond, outsideOf}
+use Rattle.outcomes.specs.Store.{slotsBeyond, outsideOf}
 use Rattle.outcomes.specs.Outcome.{store, refusal, checks, Accepted}
 use Rattle.outcomes.specs.Laws.Steps.{by-refusal, by-effect}
-use Rattle.checks.specs.Laws.Tests.{named, one-region, or-zero, entry-most}
+use Rattle.regions.specs.Laws.Entries.{entry-most}
+use Rattle.checks.specs.Laws.Tests.{named, one-region, or-zero}
 use Rattle.calls_report.proofs.report.Statement.{statement}
 use Rattle.calls_report.proofs.report.Tie as tie
 

@@ -3,7 +3,7 @@
 use mathlib.Core.Path.{_≡_, refl}
 use mathlib.Core.List.{List, [], _∷_}
 use Prim.Native.Nat.{ℕ}
-use Rattle.regions.specs.Regions.{nameAt, entryOf, entryIn, tagOf, subregionsOf, subregionsIn, countAt}
+use Rattle.regions.specs.Regions.{entryOf, entryIn, tagOf, subregionsOf, subregionsIn, countAt}
 use Rattle.pages.specs.Pages.{ownerIn, pagesOf, pagesIn}
 use Rattle.outcomes.specs.Store.{Store, regions, pages, targetsIn, slotsBeyondIn, slotsBeyond, outsideOf}
 use Rattle.outcomes.specs.Examples.{small}

@@ -5,7 +5,7 @@ use borrow.Author.Needs.{needs}
 use borrow.Author.Tests.{eq-eqb, ne-eqb}
 use Rattle.model.specs.Model.{rule}
 use Rattle.regions.specs.Regions.{nameIn}
-use Rattle.calls_words.specs.Words.{breaksIn}
+use Rattle.outcomes.specs.Store.{breaksIn}
 use Rattle.calls_words.proofs.breaks.Statement.{statement}
 use Rattle.calls_words.proofs.breaks.Tie as tie
 

@@ -29,7 +29,7 @@ returns-3 c =
     let v = o .before .before .before in
     let t = v .before .before .before .before in
     by-effect _ _ _ _ (put-tests _ _ _ _ ∙ get-tests _ _ _ ∙ else-next _ _ _ (t .before .top-refusal .ensures) (t .if1 .left) ∙ sym (d .data-refusal .ensures ∙ rw (o .object-of .ensures, v .top-slot .ensures)) ∙ h .before .before .if2 .left)
-    (c .gives .ensures, rw (h .store .ensures, v .top-slot .ensures))
+    (c .gives .ensures, rw (h .write .ensures, v .top-slot .ensures))
 
 pub put-spec : {M : Type 1} → statement M
-put-spec = tie.close (tie.spec (λ c κs. search needs) (λ c κs. search needs) returns (λ c κs. search needs) (λ c κs. search needs) (λ c κs. search needs) (λ c κs. search needs) (λ c. search needs) returns-2 (λ c. search needs) (λ c. search needs) (λ c κs. search needs) (λ c κs. search needs) (λ c. search needs) returns-3)
+put-spec = tie.close (tie.spec (λ c κs. search needs) (λ c κs. search needs) returns (λ c κs. search needs) (λ c κs. search needs) (λ c κs. search needs) (λ c κs. search needs) (λ c. search needs) returns-2 (λ c κs. search needs) (λ c κs. search needs) (λ c. search needs) returns-3)

@@ -44,7 +44,7 @@ returns-3 c =
     let a = v .before .before .before .before .before .before .before .before .before .before .args in
     let read = set-read (a .s .kinds .declared) (a .s .kinds .sizes) (a .s .kinds .marks) (a .s .regions .names) (a .s .regions .parents) (a .s .pages .owners) (a .heap .now) (v .top-slot .result) (a .w) (x .top-slot2 .result) (sym (rw (o .object-of .ensures) at (d .set-refusal .ensures)) ∙ i .if2 .left) in
     let n = rw (o .object-of .ensures) at (m .tags-of .ensures) in
-    let e = set-leaves (a .s) (a .heap .now) (v .top-slot .result) (a .w) (x .top-slot2 .result) _ _ _ _ (z .counts-shaped .ensures) read (n .0) (n .1) (r .recount .ensures) (h .write .ensures) in
+    let e = set-leaves (a .s) (a .heap .now) (v .top-slot .result) (a .w) (x .top-slot2 .result) _ _ _ _ (z .counts-shaped .ensures) read (n .0) (n .1) (r .move-counts .ensures) (h .write .ensures) in
     by-effect _ _ _ _ (rest d ∙ i .if2 .left)
     (c .gives .ensures, e ∙ ap₂ (λ v x. pointed (store (a .s) (a .heap .now)) v (a .w) x) (v .top-slot .ensures) (x .top-slot2 .ensures))
 

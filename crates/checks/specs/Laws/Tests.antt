@@ -3,19 +3,15 @@
 use mathlib.Core.Path.{_≡_, refl, sym, ap, _∙_}
 use mathlib.Core.Logic.{_≢_}
 use mathlib.Core.Bool.{Bool, true, false, _||_}
-use mathlib.Core.List.{List, [], _∷_}
-use Prim.Native.Nat.{ℕ, _≤_}
-use native.Mathlib.Omega.{arith}
+use mathlib.Core.List.{List, _∷_}
+use Prim.Native.Nat.{ℕ}
 use lib.Dec.{eqb}
-use lib.ListN.{length, getD}
+use lib.ListN.{length}
 use borrow.Author.Tests.{eqb-true, ne-eqb}
-use Rattle.lists.specs.Lists.{pick, find, upTo}
 use Rattle.lists.specs.Laws.Tests.{by-test}
-use Rattle.lists.specs.Laws.Finds.{all-find}
-use Rattle.lists.specs.Laws.UpTo.{all-upTo}
 use Rattle.model.specs.Calls.{reason, _yields_}
 use Rattle.frames.specs.Frames.{widthAt, topFrame}
-use Rattle.regions.specs.Regions.{entryOf, isLive, entryIn}
+use Rattle.regions.specs.Regions.{entryOf, isLive}
 use Rattle.pages.specs.Pages.{wrongLength}
 use Rattle.outcomes.specs.Store.{Store, frames, regions, pages}
 use Rattle.outcomes.specs.Outcome.{badLength, noFrame, oneFrame, lacks, lacksBeneath, dead}
@@ -54,15 +50,6 @@ module _ (S : Store) (rest : List (Bool × ℕ)) where
   pub one-region : (r : ℕ) → reason (badLength S yields 21 ∷ dead S r yields 2 ∷ rest) ≡ orElse (reason (named S r)) (reason rest)
   unfolding regionTests badLength dead isLive wrongLength
   one-region r = reason-append (named S r) rest refl
-
--- an entry plus 1 is no large number
-pub entry-most : (names : List ℕ) (n : ℕ) → entryIn names n ≤ 64
-unfolding entryIn
-entry-most names n = go (eqb n 0)
-  where
-    go : (b : Bool) → pick b 64 (find (λ i. eqb (getD names i 0) n) 64 (upTo 64)) ≤ 64
-    go true = omega arith
-    go false = all-find (λ i. i ≤ 64) (λ i. eqb (getD names i 0) n) 64 (upTo 64) (all-upTo (λ i. i ≤ 64) 64 (λ i h. omega arith)) (omega arith)
 
 -- with no test more
 pub or-zero : (g : ℕ) → orElse g 0 ≡ g

@@ -18,7 +18,7 @@ use Rattle.model.specs.Model.{Model, region, livesIn}
 use Rattle.regions.specs.declared.Regions.{Regions}
 use Rattle.regions.specs.Regions.{nameAt, entryOf, tagOf}
 use Rattle.pages.specs.declared.Pages.{Pages}
-use Rattle.pages.specs.Pages.{ownerAt, withTaken, freed}
+use Rattle.pages.specs.Pages.{ownerAt, withTaken, freed, ownersTo}
 use Rattle.pages.specs.Laws.Taken.{owner-here, owner-else}
 use Rattle.pages.specs.Laws.Gone.{gone-owner}
 use Rattle.outcomes.specs.History.{History, Holding, holders}
@@ -87,7 +87,7 @@ module _ {L : Model} {sp : List ℕ} {h : History} {g : Regions} {p : Pages} {wo
         (by-test (eqb q r) (λ e. rw e (refl, refl)) (λ e. rw (e, ne-eqb (tagOf g q) 0 (tag-some g q)) (refl, sym (holding-else (g .names) (entryOf g r) 0 (tagOf g q) (other-tag q e lq) ∙ holding-tag ra q lq))))
 
     pub ended-pages : TellsPages (ended h r) (set (g .names) (entryOf g r) 0) (freed p (tagOf g r))
-    unfolding ended freed
+    unfolding ended freed ownersTo ownerAt
     ended-pages = record {
       pages = u .pages;
       free = λ j l. ended-page j l (pa .owned j l) .0;

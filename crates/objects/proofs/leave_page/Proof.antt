@@ -4,7 +4,7 @@ use Prim.Native.Nat.{ℕ, _+_, _-_, _*_, _≤_}
 use native.Mathlib.Omega.{arith}
 use lib.ListN.{length}
 use borrow.Author.Needs.{needs}
-use Rattle.kinds.specs.Kinds.{kindsOf}
+use Rattle.kinds.specs.Kinds.{kindsWith}
 use Rattle.regions.specs.Laws.Steps.{steps, leavings, steps-length}
 use Rattle.objects.specs.Objects.{headersTo, outOf}
 use Rattle.objects.specs.Laws.Walk.{wordsFrom, words-none, words-stop, words-next}
@@ -15,7 +15,7 @@ use Rattle.objects.proofs.leave_page.Tie as tie
 -- when the words left leave too, all have left
 abbrev Inv-loop : tie.InvT-loop
 Inv-loop declared sizes marks heap owners j n counts₀ own at₀ end i₀ counts at i =
-    let k = kindsOf declared sizes marks in
+    let k = kindsWith declared sizes marks in
     (i ≤ 64) × (at ≤ end) × (length counts ≡ length counts₀) × (leavings counts (outOf owners own (wordsFrom k heap (64 - i) at end)) ≡ leavings counts₀ (outOf owners own (wordsFrom k heap 64 at₀ end)))
 
 abbrev μ-loop : tie.MeasureT-loop
@@ -31,10 +31,10 @@ next owners own cs ds a b p = ap (λ c. leavings c (outOf owners own b)) p ∙ l
 -- one object: where it ends, and the counts when the words left leave too
 leaves :
     (c : tie.After-leave-words Inv-loop μ-loop) →
-    let s = c .before .before .before .size-in .result in
+    let s = c .before .before .before .fitting .result in
     let l = c .before .before .before .before .before .before in
     let a = l .before .before .before .before .before .before .args in
-    let k = kindsOf (a .declared) (a .sizes .now) (a .marks .now) in
+    let k = kindsWith (a .declared) (a .sizes .now) (a .marks .now) in
     let e = 64 * a .j + a .n in
     let cs : List ℕ = c .leave-words .last .1 .1 .1 .1 .0 in
     let left : ℕ → ℕ → List ℕ = λ i at. outOf (a .owners .now) (a .own) (wordsFrom k (a .heap .now) (64 - i) at e) in
@@ -43,9 +43,9 @@ leaves c =
     let z = c .before .before .before in
     let l = z .before .before .before in
     let a = l .before .before .before .before .before .before .args in
-    let k = kindsOf (a .declared) (a .sizes .now) (a .marks .now) in
+    let k = kindsWith (a .declared) (a .sizes .now) (a .marks .now) in
     let m = z .before .part-at .ensures in
-    let o = words-next k (a .heap .now) (l .loop .at) (64 * a .j + a .n) (64 - l .loop .i) (64 - (l .loop .i + 1)) (z .size-in .result) (omega arith) (rw m at (z .size-in .ensures)) (c .before .before .if1 .left) in
+    let o = words-next k (a .heap .now) (l .loop .at) (64 * a .j + a .n) (64 - l .loop .i) (64 - (l .loop .i + 1)) (z .fitting .result) (omega arith) (rw m at (z .fitting .ensures)) (c .before .before .if1 .left) in
     let h = rw m at (c .leave-words .ensures) in
     (o .0, ap length h ∙ steps-length 4294967295 (l .loop .counts) _, rw (o .1) (next (a .owners .now) (a .own) (l .loop .counts) _ _ _ h))
 
@@ -60,7 +60,7 @@ unfolding headersTo outOf steps
 returns c =
     let l = c .before in
     let a = l .before .before .before .before .before .before .args in
-    let k = kindsOf (a .declared) (a .sizes .now) (a .marks .now) in
+    let k = kindsWith (a .declared) (a .sizes .now) (a .marks .now) in
     rw (words-none k (a .heap .now) (l .loop .at) (64 * a .j + a .n) (64 - l .loop .i) (omega arith)) at (l .loop .inv .3)
 
 returns-2 : tie.Need-returns-2 Inv-loop μ-loop
@@ -68,8 +68,8 @@ unfolding headersTo outOf steps
 returns-2 c =
     let l = c .before .before .before .before in
     let a = l .before .before .before .before .before .before .args in
-    let k = kindsOf (a .declared) (a .sizes .now) (a .marks .now) in
-    let z = rw (c .before .before .part-at .ensures) at (c .before .size-in .ensures) in
+    let k = kindsWith (a .declared) (a .sizes .now) (a .marks .now) in
+    let z = rw (c .before .before .part-at .ensures) at (c .before .fitting .ensures) in
     rw (words-stop k (a .heap .now) (l .loop .at) (64 * a .j + a .n) (64 - l .loop .i) (sym z ∙ c .if1 .taken)) at (l .loop .inv .3)
 
 pub leave-page-spec : {M : Type 1} → statement M

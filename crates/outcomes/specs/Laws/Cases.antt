@@ -12,7 +12,7 @@ use Rattle.kinds.specs.Kinds.{kindCount, sizeOf, markAt, allData as onlyData, a
 use Rattle.regions.specs.Regions.{nameAt, nameOf, entryOf, parentAt, oldestAt, countAt, moved, rolled, withCounts, recount, entryIn, nameIn}
 use Rattle.pages.specs.Pages.{pageCount, ownerAt, ownerIn, ownerOf, pagesOf, wrongLength, pagesIn, wrongLengthIn}
 use Rattle.objects.specs.Objects.{kindOf, wordCount, markOf, wordAt}
-use Rattle.outcomes.specs.Store.{Store, frames, regions, pages, slot, slotTargets, targetsIn, breaks}
+use Rattle.outcomes.specs.Store.{Store, frames, regions, pages, slot, slotTargets, targetsIn, breaks, breaksIn}
 use Rattle.outcomes.specs.Outcome.{withFrames, badLength, noFrame, oneFrame, lacks, lacksBeneath, noWord, isData, allData, checks, refusal, fillSlot, writeWord, recounted, countedIn, popFrame, pointed, viewed}
 use Rattle.outcomes.specs.Examples.{small}
 
@@ -61,5 +61,5 @@ cases =
     ∷ []
 
 pub computed : every (λ p. eqb (p .0) (p .1)) cases ≡ true
-unfolding frameCount topFrame widthAt slotAt putSlot pushed uncounts popped kindCount sizeOf markAt nameAt nameOf entryOf parentAt oldestAt countAt moved rolled withCounts recount pageCount ownerAt ownerIn ownerOf pagesOf wrongLength kindOf wordCount markOf wordAt slot slotTargets targetsIn breaks badLength noFrame oneFrame lacks lacksBeneath noWord isData allData onlyData allDataIn checks refusal fillSlot writeWord recounted countedIn popFrame pointed uncountsIn sizeIn nameIn entryIn pagesIn wrongLengthIn
+unfolding frameCount topFrame widthAt slotAt putSlot pushed uncounts popped kindCount sizeOf markAt nameAt nameOf entryOf parentAt oldestAt countAt moved rolled withCounts recount pageCount ownerAt ownerIn ownerOf pagesOf wrongLength kindOf wordCount markOf wordAt slot slotTargets targetsIn breaks badLength noFrame oneFrame lacks lacksBeneath noWord isData allData onlyData allDataIn checks refusal fillSlot writeWord recounted countedIn popFrame pointed uncountsIn sizeIn nameIn entryIn pagesIn wrongLengthIn breaksIn
 computed = refl

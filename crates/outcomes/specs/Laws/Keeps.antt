@@ -22,7 +22,7 @@ use Rattle.regions.specs.declared.Regions.{Regions}
 use Rattle.regions.specs.Regions.{entryOf, tagOf, isLive, newestAt, oldestAt, levelAt}
 use Rattle.pages.specs.declared.Pages.{Pages}
 use Rattle.pages.specs.Pages.{pageCount, isFree, takenAt}
-use Rattle.outcomes.specs.Store.{Store, frames, kinds, regions, pages, slot, size, roomy}
+use Rattle.outcomes.specs.Store.{Store, frames, kinds, regions, pages, slot, size, roomy, roomyIn}
 use Rattle.outcomes.specs.Sound.{Sound}
 use Rattle.outcomes.specs.Shape.{FramesShaped, KindsShaped, RegionsShaped, PagesShaped, Shaped}
 use Rattle.outcomes.specs.Outcome.{Outcome, Accepted, Answered, Audited, Chosen, refusal, checks, dead, namesOut, withFrames, withKinds, withRegions, withPages, withHeap, fillSlot, writeWord, recounted, pointed, popFrame, allocated, outgoing, newlyCounted, deleted}
@@ -127,7 +127,7 @@ newest-below g h i = array-at 64 65536 (g .newest) (h .newest) i (omega arith)
 
 -- an object on the page chosen: where it starts, and that page, fit their types
 roomy-fits : (S : Store) (i n : ℕ) → roomy S i n ≡ true → takenAt (pages S) (newestAt (regions S) i - 1) + n ≤ 64
-unfolding roomy
+unfolding roomy roomyIn takenAt
 roomy-fits S i n e = go (eqb (newestAt (regions S) i) 0) (leb 65 (takenAt (pages S) (newestAt (regions S) i - 1) + n)) refl e
   where
     go : (b d : Bool) → leb 65 (takenAt (pages S) (newestAt (regions S) i - 1) + n) ≡ d → not (b || d) ≡ true → takenAt (pages S) (newestAt (regions S) i - 1) + n ≤ 64

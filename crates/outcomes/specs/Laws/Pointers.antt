@@ -9,7 +9,7 @@ use native.Mathlib.Omega.{arith}
 use lib.Dec.{eqb, ltb, eqb·suc-zero}
 use lib.ListN.{length, getD, List·getD-eq-default}
 use borrow.Author.Tests.{eqb-true, eqb-false, ne-eqb, ltb-true, ltb-false, lt-leb}
-use Rattle.lists.specs.Lists.{bit, pick, every, keep, sum, count, All, joined, upTo}
+use Rattle.lists.specs.Lists.{bit, pick, every, keep, sum, count, All, joined, upTo, times}
 use Rattle.lists.specs.Laws.Tests.{by-test, or-other, pick-same}
 use Rattle.lists.specs.Laws.All.{all-map, all-both}
 use Rattle.lists.specs.Laws.Sums.{sum-map, sum-keep, sum-same, sum-joined}
@@ -21,7 +21,7 @@ use Rattle.kinds.specs.Kinds.{kindCount, sizeOf, markAt, sizeIn}
 use Rattle.regions.specs.Regions.{nameAt, nameOf, nameIn}
 use Rattle.pages.specs.Pages.{pageCount, ownerAt, ownerIn, ownerOf}
 use Rattle.objects.specs.Objects.{headersOn, freeWords, freeWordsOn}
-use Rattle.outcomes.specs.Store.{Store, frames, kinds, regions, pages, slotsInto, slotTargets, targetsIn}
+use Rattle.outcomes.specs.Store.{Store, frames, kinds, regions, pages, slotTargets, targetsIn}
 use Rattle.outcomes.specs.History.{Object, Word, begin, listedKinds, listedFrames, slotsOf, pointersOf, leads, homeOf}
 use Rattle.outcomes.specs.History as history
 use Rattle.outcomes.specs.Laws.Begin.{holderOf, headersOf, headers, objectAt, begin-objects, page-of, leads-null, home-is, home-none, name-same}
@@ -30,7 +30,10 @@ use Rattle.outcomes.specs.Laws.Begin.{holderOf, headersOf, headers, obje
 unfoldable pub wordsInto : Store → ℕ → ℕ → ℕ
 wordsInto S t j = pick (eqb (ownerAt (pages S) j) 0 || eqb (ownerAt (pages S) j) t) 0 (count (λ v. eqb (ownerOf (pages S) v) t) (freeWordsOn (kinds S) (S .heap) (pages S) j))
 
--- the slots of frame i that lead into the region with tag t, slot by slot
+-- how many slots of frame i do; and slot by slot
+unfoldable pub slotsInto : Store → ℕ → ℕ → ℕ
+slotsInto S t i = times t (slotTargets S i)
+
 pub slots-sum : (S : Store) (t i : ℕ) → slotsInto S t i ≡ count (λ s. eqb (ownerOf (pages S) (slotAt (frames S) i s)) t) (upTo (widthAt (frames S) i))
 unfolding slotsInto slotTargets targetsIn ownerOf slotAt widthAt
 slots-sum S t i = sum-map (λ o. bit (eqb o t)) (λ s. ownerIn ((pages S) .owners) (slotIn ((frames S) .slots) i s)) (upTo (widthIn ((frames S) .widths) i))
@@ -159,7 +162,7 @@ module _ (S : Store) (h : Ordered S) where
     -- what the objects of page j add
     on-page : (j : ℕ) → j < pageCount (pages S) → (ownerAt (pages S) j ≢ 0 → All (λ q. All Known (freeWords (kinds S) (S .heap) q)) (headersOn (kinds S) (S .heap) (pages S) j))
         → sum (λ q. history.wordsLeadingTo (begin S) S (nameAt (regions S) i) (objectAt S q)) (headersOf S j) ≡ wordsInto S (suc i) j
-    unfolding history.wordsLeadingTo wordsInto freeWordsOn nameOf nameIn
+    unfolding history.wordsLeadingTo wordsInto freeWordsOn nameOf nameIn headersOn
     on-page j l k = by-test (eqb (ownerAt (pages S) j) 0)
         (λ z. rw (z, eqb-true (ownerAt (pages S) j) 0 z))
         (λ z.

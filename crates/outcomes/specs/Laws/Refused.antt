@@ -15,8 +15,8 @@ use Rattle.lists.specs.Laws.UpTo.{find-found}
 use Rattle.model.specs.Model.{Answer, Call, declare, newRegion, subregion, push, dropFrame, handBack, allocate, first, copy, fetch, clear, load, setPointer, put, get, view, same, about, report, totals, audit, delete, gives, refusedBy}
 use Rattle.regions.specs.Regions.{newestAt, entryOf}
 use Rattle.pages.specs.declared.Pages.{Pages}
-use Rattle.pages.specs.Pages.{pageCount, ownerAt, isFree, pagesOf, pagesIn}
-use Rattle.outcomes.specs.Store.{Store, regions, pages, roomy, size}
+use Rattle.pages.specs.Pages.{pageCount, ownerAt, isFree, pagesOf, pagesIn, takenAt}
+use Rattle.outcomes.specs.Store.{Store, regions, pages, roomy, size, roomyIn}
 use Rattle.outcomes.specs.Sound.{Sound}
 use Rattle.outcomes.specs.Outcome.{Outcome, Accepted, Answered, Audited, Chosen, checks, refusal}
 use Rattle.outcomes.specs.Promises.{Total, Refusals, AuditExact}
@@ -96,7 +96,7 @@ back zero b e = absurd (true≢false (sym e))
 back (suc x) b e = let d : suc x ≡ suc x - 1 + 1 = omega arith in eq-eqb _ _ d
 
 newest : (S : Store) (i n : ℕ) → roomy S i n ≡ true → eqb (newestAt (regions S) i) (newestAt (regions S) i - 1 + 1) ≡ true
-unfolding roomy
+unfolding roomy roomyIn takenAt
 newest S i n e = back (newestAt (regions S) i) _ e
 
 free-page : (p : Pages) → eqb (pagesOf p 0) 0 ≡ false → (j : ℕ) × (isFree p j ≡ true)

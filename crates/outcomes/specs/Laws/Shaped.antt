@@ -19,7 +19,7 @@ use Rattle.regions.specs.declared.Regions.{Regions}
 use Rattle.regions.specs.Regions.{countAt, rolled, moved, withRegion, withoutRegion, withPage, withCounts, recount}
 use Rattle.regions.specs.Laws.Added.{count-new}
 use Rattle.pages.specs.declared.Pages.{Pages}
-use Rattle.pages.specs.Pages.{pageCount, ownerAt, withTaken, freed}
+use Rattle.pages.specs.Pages.{pageCount, ownerAt, withTaken, freed, ownersTo}
 use Rattle.outcomes.specs.Shape.{Array, FramesShaped, KindsShaped, RegionsShaped, PagesShaped, Shaped}
 use Rattle.outcomes.specs.Outcome.{store, blank}
 
@@ -146,7 +146,7 @@ module _ (p : Pages) (h : PagesShaped p) where
   with-taken j t n x y = record { made = h .made; owners = array-set 256 256 (p .owners) (h .owners) j t x; taken = array-set 256 256 (p .taken) (h .taken) j n y }
 
   pub free-pages : (t : ℕ) → PagesShaped (freed p t)
-  unfolding freed ownerAt
+  unfolding freed ownerAt ownersTo
   free-pages t = record {
     made = h .made;
     owners = array-map 256 256 (λ j. pick (ltb j (pageCount p) && eqb (getD (p .owners) j 0) t) 0 (getD (p .owners) j 0))

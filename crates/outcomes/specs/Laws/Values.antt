@@ -18,7 +18,7 @@ use Rattle.regions.specs.Regions.{nameAt, nameOf, parentAt, liveCount, subregio
 use Rattle.pages.specs.declared.Pages.{Pages}
 use Rattle.pages.specs.Pages.{ownerAt, takenAt, pagesOf, pagesIn}
 use Rattle.objects.specs.Objects.{kindOf, wordAt, walk, headersTo, headersOn, freeWords, freeWordsOn}
-use Rattle.objects.specs.Laws.Words as sizes
+use Rattle.kinds.specs.Laws.Marks as sizes
 use Rattle.outcomes.specs.Store.{Store, outsideOf}
 use Rattle.outcomes.specs.Shape.{RegionsShaped, Shaped}
 use Rattle.outcomes.specs.Laws.Shaped.{array-at, pick-below}

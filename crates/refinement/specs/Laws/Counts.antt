@@ -24,8 +24,8 @@ use Rattle.regions.specs.Laws.Counts.{rolled-exact}
 use Rattle.regions.specs.Laws.Recount.{recount-at}
 use Rattle.pages.specs.declared.Pages.{Pages}
 use Rattle.pages.specs.Pages.{ownerOf}
-use Rattle.outcomes.specs.Store.{Store, frames, regions, pages, slotTargets, slotsInto, slotsBeyondIn, slotsBeyond}
-use Rattle.outcomes.specs.Laws.Pointers.{slots-sum}
+use Rattle.outcomes.specs.Store.{Store, frames, regions, pages, slotTargets, slotsBeyondIn, slotsBeyond}
+use Rattle.outcomes.specs.Laws.Pointers.{slots-sum, slotsInto}
 use Rattle.refinement.specs.Represents.{spot, Alive, wordsIn, FramesAgree, RegionsAgree, ObjectsAgree}
 use Rattle.refinement.specs.Laws.Tags.{entry-in, tag-for, for-same, live-for}
 use Rattle.refinement.specs.Laws.Reads.{frame-count, home-named, owner-is}

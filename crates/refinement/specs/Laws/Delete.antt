@@ -32,7 +32,7 @@ use Rattle.regions.specs.Regions.{nameAt, entryOf, tagOf, parentAt, levelAt, ne
 use Rattle.regions.specs.Laws.Recount.{recount-beside}
 use Rattle.regions.specs.Laws.Removed.{count-stays, name-removed, name-left, entry-left, tag-left}
 use Rattle.pages.specs.declared.Pages.{Pages}
-use Rattle.pages.specs.Pages.{pageCount, ownerAt, ownerOf, freed}
+use Rattle.pages.specs.Pages.{pageCount, ownerAt, ownerOf, freed, ownersTo}
 use Rattle.pages.specs.Laws.Gone.{gone-owner, gone-other, gone-pages, gone-held, gone-pointer, gone-free}
 use Rattle.objects.specs.Objects.{freeWordsOn, freeWordsOf, outOf}
 use Rattle.outcomes.specs.Store.{Store, frames, kinds, regions, pages, slotTargets}
@@ -120,7 +120,7 @@ module _ {L : Model} {sp : List ℕ} {g : Regions} (v : Valid L) (a : RegionsAgr
     owner-kept j q h k e = gone-owner p (tagOf g r) j (counted j h) ∙ rw (e, ne-eqb (tagOf g q) (tagOf g r) (tag-apart q k)) (sym (tag-kept q k))
 
     pages-left : PagesAgree (removeRegion L r) left free words
-    unfolding removeRegion withoutRegion newestAt freed
+    unfolding removeRegion withoutRegion newestAt freed ownersTo ownerAt
     pages-left = record {
       some = b .some;
       most = b .most;
@@ -152,7 +152,7 @@ module _ {L : Model} {sp : List ℕ} {g : Regions} (v : Valid L) (a : RegionsAgr
       tiles-left a e (q ∷ qs) h t = (t .0, h .0, tiles-left (a + 1 + length (wordsIn L q)) e qs (h .1) (t .2))
 
       objects-left : ObjectsAgree (removeRegion L r) sp ids left free heap
-      unfolding removeRegion freed
+      unfolding removeRegion freed ownersTo ownerAt
       objects-left = record {
         known = o .known;
         laid = λ q h. o .laid q (was q h);

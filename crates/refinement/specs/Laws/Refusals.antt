@@ -21,7 +21,7 @@ use Rattle.model.specs.Laws.Counts.{outside-stored}
 use Rattle.kinds.specs.Kinds.{sizeOf, markAt as kindMark, wrongMarks, allDataIn, allData as onlyData}
 use Rattle.regions.specs.Regions.{countAt, nameOf, entryOf, tagOf, parentAt, newestAt}
 use Rattle.pages.specs.Pages.{takenAt, ownerOf}
-use Rattle.outcomes.specs.Store.{Store, frames, kinds, regions, pages, slot as storeSlot, slotTargets, uncountedIn, slotsBeyondIn, slotsBeyond, ledIn, ledInto, breaks, roomy, size as storeSize}
+use Rattle.outcomes.specs.Store.{Store, frames, kinds, regions, pages, slot as storeSlot, slotTargets, uncountedIn, slotsBeyondIn, slotsBeyond, ledIn, ledInto, breaks, roomy, size as storeSize, breaksIn, roomyIn}
 use Rattle.outcomes.specs.Outcome.{checks as storeChecks, refusal as storeRefusal, badLength, noFrame as storeNoFrame, oneFrame as storeOneFrame, lacks as storeLacks, lacksBeneath, dead as storeDead, full, namesOut, noWord as storeNoWord, isData, allData}
 use Rattle.refinement.specs.Represents.{Represents, RoomAgrees, spot}
 use Rattle.refinement.specs.Laws.Tags.{live-is, live-count, parent-name, subregions-are}
@@ -104,7 +104,7 @@ module _ {L : Model} {sp : List ℕ} {ids : ℕ → List ℕ} {S : Store} (v : V
 
   breaks-is : (s w t : ℕ) → lacks (top L) s ≡ false → lacks (top L) t ≡ false → null L s ≡ false → noWord L s w ≡ false
       → breaks S (storeSlot S s) w (storeSlot S t) ≡ not (allowed (parentIn L) (homeIn L) ((held L s) .home) (markAt L s w) (slot L t))
-  unfolding breaks allowed
+  unfolding breaks allowed breaksIn nameOf parentAt
   breaks-is s w t k m n o = rw (
     slot-is h s k,
     slot-is h t m,
@@ -120,7 +120,7 @@ module _ {L : Model} {sp : List ℕ} {ids : ℕ → List ℕ} {S : Store} (v : V
   size-same k = omega (arith, h .onKinds .sizes k)
 
   pub roomy-is : (r n : ℕ) → livesIn L r ≡ true → 1 ≤ n → roomy S (entryOf (regions S) r) n ≡ fits (region (L .regions) r) n
-  unfolding roomy takenAt
+  unfolding roomy takenAt roomyIn
   roomy-is r n l k = go (newestAt (regions S) (entryOf (regions S) r)) (h .onPages .room r l)
     where
       go : (j : ℕ) → RoomAgrees ((region (L .regions) r) .room) (pages S) (tagOf (regions S) r) j

@@ -117,7 +117,7 @@ module _ (L : Model) (sp : List ℕ) (ids : ℕ → List ℕ) (g : Regions) (k :
 
   -- whatever is added up over the words marked 1 on the page comes to the same over the model's words marked 1
   pub free-words-on : (f : ℕ → ℕ) → sum f (freeWordsOn k heap p j) ≡ sum (λ q. sum₂ (λ m x. pick (eqb m 1) (f (spot sp x)) 0) (marksIn L q) (wordsIn L q)) (ids j)
-  unfolding freeWordsOn
+  unfolding freeWordsOn headersOn
   free-words-on f = rw headers-on (free-joined L sp k heap (all-sized L v) kinds (objects .laid) f (ids j) (tiles-alive L sp _ _ (ids j) (objects .tiled j made held)))
 
 -- the page's objects are of the region that holds it

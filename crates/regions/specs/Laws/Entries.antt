@@ -4,14 +4,14 @@ use mathlib.Core.Path.{_≡_, refl, ap, _∙_}
 use mathlib.Core.Bool.{Bool, true, false, not}
 use mathlib.Core.Logic.{_≢_}
 use mathlib.Core.List.{List, [], _∷_}
-use Prim.Native.Nat.{ℕ, zero, suc, _+_, _-_, _<_}
+use Prim.Native.Nat.{ℕ, zero, suc, _+_, _-_, _<_, _≤_}
 use native.Mathlib.Omega.{arith}
 use lib.Dec.{eqb}
 use lib.ListN.{length, getD}
 use borrow.Author.Tests.{eqb-true, ne-eqb, lt-ltb}
-use Rattle.lists.specs.Lists.{bit, any, find, count, upTo}
-use Rattle.lists.specs.Laws.Finds.{any-count}
-use Rattle.lists.specs.Laws.UpTo.{length-upTo, find-found}
+use Rattle.lists.specs.Lists.{bit, pick, any, find, count, upTo}
+use Rattle.lists.specs.Laws.Finds.{any-count, all-find}
+use Rattle.lists.specs.Laws.UpTo.{length-upTo, find-found, all-upTo}
 use Rattle.regions.specs.declared.Regions.{Regions}
 use Rattle.regions.specs.Regions.{nameAt, nameOf, entryOf, liveCount, unused, entryIn, liveIn, nameIn, unusedIn}
 
@@ -68,3 +68,12 @@ unused-found r h =
   where
     rest : (a b : ℕ) → a + b ≡ 64 → a < 64 → 0 < b
     rest a b e k = omega arith
+
+-- the entry found is at most 64
+pub entry-most : (names : List ℕ) (n : ℕ) → entryIn names n ≤ 64
+unfolding entryIn
+entry-most names n = go (eqb n 0)
+  where
+    go : (b : Bool) → pick b 64 (find (λ i. eqb (getD names i 0) n) 64 (upTo 64)) ≤ 64
+    go true = omega arith
+    go false = all-find (λ i. i ≤ 64) (λ i. eqb (getD names i 0) n) 64 (upTo 64) (all-upTo (λ i. i ≤ 64) 64 (λ i h. omega arith)) (omega arith)

@@ -1,8 +1,8 @@
 use borrow.Author.Needs.{needs}
 use borrow.Author.Tests.{le-leb, lt-leb}
 use Rattle.objects.specs.Parts.{fitting}
-use Rattle.objects.proofs.size_in.Statement.{statement}
-use Rattle.objects.proofs.size_in.Tie as tie
+use Rattle.objects.proofs.fitting.Statement.{statement}
+use Rattle.objects.proofs.fitting.Tie as tie
 
 returns : tie.Need-returns
 unfolding fitting
@@ -12,5 +12,5 @@ returns-2 : tie.Need-returns-2
 unfolding fitting
 returns-2 c = rw (← c .before .word-count .ensures) (simp (lt-leb _ _ (c .if1 .left)))
 
-pub size-in-spec : {M : Type 1} → statement M
-size-in-spec = tie.close (tie.spec (λ c κs. search needs) (λ c. search needs) (λ c. search needs) returns returns-2)
+pub fitting-spec : {M : Type 1} → statement M
+fitting-spec = tie.close (tie.spec (λ c κs. search needs) (λ c. search needs) (λ c. search needs) returns returns-2)
