@@ -15,7 +15,7 @@
 #define WORDS 16384
 // A measured difference is at least this long, in nanoseconds.
 #define LEAST 4000000.0
-#define ROUNDS 9
+#define ROUNDS 25
 #define CLEAR 12
 
 static uint32_t heap[WORDS];
