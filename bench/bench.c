@@ -1,4 +1,4 @@
-// Times the functions that crates/bench exports, or runs one of them.
+// Times the calls of the store, by the functions that crates/bench exports, or runs one of them.
 //   bench                 a line for each name: the name, nanoseconds of processor time a call
 //   bench NAME            the nanoseconds alone
 //   bench NAME N          one run of N calls, for a tool that counts instructions
@@ -16,47 +16,25 @@
 // A measured difference is at least this long, in nanoseconds.
 #define LEAST 4000000.0
 #define ROUNDS 25
-#define CLEAR 12
 
 static uint32_t heap[WORDS];
 
-#define DECLARE(name) uint32_t bench_##name(uint32_t *heap, size_t words, uint32_t n);
-DECLARE(clear)
-DECLARE(copy)
-DECLARE(fetch)
-DECLARE(first)
-DECLARE(load)
-DECLARE(set_pointer)
-DECLARE(allocate)
-DECLARE(allocate_page)
-DECLARE(put)
-DECLARE(get)
-DECLARE(view)
-DECLARE(same)
-DECLARE(about)
-DECLARE(totals)
-DECLARE(push_drop)
-DECLARE(push_hand_back)
-DECLARE(region_delete)
-DECLARE(subregion_delete)
-DECLARE(report_plain)
-DECLARE(report_full)
-DECLARE(report_frames)
-DECLARE(delete_pages)
-DECLARE(audit_plain)
-DECLARE(audit_full)
-DECLARE(state_copy)
-uint32_t bench_call(uint32_t *heap, size_t words, uint32_t number, uint32_t n);
+uint32_t bench_changing(uint32_t *heap, size_t words, uint32_t set_up, uint32_t which, uint32_t n);
+uint32_t bench_pairs(uint32_t *heap, size_t words, uint32_t set_up, uint32_t which, uint32_t n);
+uint32_t bench_answering(uint32_t *heap, size_t words, uint32_t set_up, uint32_t which, uint32_t n);
+uint32_t bench_again(uint32_t *heap, size_t words, uint32_t set_up, uint32_t which, uint32_t n);
 
-static uint32_t bench_call_clear(uint32_t *h, size_t words, uint32_t n) {
-    return bench_call(h, words, CLEAR, n);
-}
+// The stores, by their numbers in crates/bench.
+enum { PLAIN, STACKED, EMPTY, LADEN, FULL, HEAVY };
 
+// `run` makes the call that has the number `which` there.
 // What a run of n calls gives is n / 2 * two + more: `two` is what the replies of two calls add up to, `more` the audit in the end, where there is one.
 // `most` bounds n, where names of regions would run out. `count` is n where instructions are counted. Every n is even.
 struct bench {
     const char *name;
-    uint32_t (*run)(uint32_t *heap, size_t words, uint32_t n);
+    uint32_t (*run)(uint32_t *heap, size_t words, uint32_t set_up, uint32_t which, uint32_t n);
+    uint32_t set_up;
+    uint32_t which;
     uint32_t two;
     uint32_t more;
     uint32_t most;
@@ -65,37 +43,37 @@ struct bench {
 
 #define MOST 100000000
 static const struct bench benches[] = {
-    {"state_copy", bench_state_copy, 0, 1, MOST, 1000},
-    {"clear", bench_clear, 0, 1, MOST, 1000},
-    {"call_clear", bench_call_clear, 0, 1, MOST, 1000},
-    {"copy", bench_copy, 0, 1, MOST, 1000},
-    {"fetch", bench_fetch, 0, 1, MOST, 1000},
-    {"first", bench_first, 0, 1, MOST, 1000},
-    {"load", bench_load, 0, 1, MOST, 1000},
-    {"set_pointer", bench_set_pointer, 0, 1, MOST, 1000},
-    {"allocate", bench_allocate, 0, 1, MOST, 1000},
-    {"allocate_page", bench_allocate_page, 0, 1, MOST, 1000},
-    {"put", bench_put, 0, 0, MOST, 1000},
-    {"get", bench_get, 14, 0, MOST, 1000},
-    {"view", bench_view, 6, 0, MOST, 1000},
-    {"same", bench_same, 1, 0, MOST, 1000},
-    {"about", bench_about, 7, 0, MOST, 1000},
-    {"totals", bench_totals, 516, 0, MOST, 1000},
-    {"push_drop", bench_push_drop, 0, 1, MOST, 1000},
-    {"push_hand_back", bench_push_hand_back, 0, 1, MOST, 1000},
-    {"region_delete", bench_region_delete, 0, 1, 400000, 1000},
-    {"subregion_delete", bench_subregion_delete, 0, 1, 400000, 1000},
-    {"report_plain", bench_report_plain, 4, 0, MOST, 100},
-    {"report_full", bench_report_full, 32644, 0, MOST, 4},
-    {"report_frames", bench_report_frames, 514, 0, MOST, 100},
-    {"delete_pages", bench_delete_pages, 32, 1, MOST, 20},
-    {"audit_plain", bench_audit_plain, 2, 0, MOST, 20},
-    {"audit_full", bench_audit_full, 2, 0, MOST, 2},
+    {"state_copy", bench_again, PLAIN, 0, 0, 1, MOST, 1000},
+    {"clear", bench_changing, PLAIN, 12, 0, 1, MOST, 1000},
+    {"call_clear", bench_changing, PLAIN, 112, 0, 1, MOST, 1000},
+    {"copy", bench_changing, PLAIN, 10, 0, 1, MOST, 1000},
+    {"fetch", bench_changing, STACKED, 11, 0, 1, MOST, 1000},
+    {"first", bench_changing, PLAIN, 9, 0, 1, MOST, 1000},
+    {"load", bench_changing, PLAIN, 13, 0, 1, MOST, 1000},
+    {"set_pointer", bench_changing, PLAIN, 14, 0, 1, MOST, 1000},
+    {"allocate", bench_again, PLAIN, 8, 0, 1, MOST, 1000},
+    {"allocate_page", bench_again, EMPTY, 108, 0, 1, MOST, 1000},
+    {"put", bench_answering, PLAIN, 15, 0, 0, MOST, 1000},
+    {"get", bench_answering, PLAIN, 16, 14, 0, MOST, 1000},
+    {"view", bench_answering, PLAIN, 17, 6, 0, MOST, 1000},
+    {"same", bench_answering, PLAIN, 18, 1, 0, MOST, 1000},
+    {"about", bench_answering, PLAIN, 19, 7, 0, MOST, 1000},
+    {"totals", bench_answering, PLAIN, 21, 516, 0, MOST, 1000},
+    {"push_drop", bench_pairs, PLAIN, 6, 0, 1, MOST, 1000},
+    {"push_hand_back", bench_pairs, PLAIN, 7, 0, 1, MOST, 1000},
+    {"region_delete", bench_pairs, PLAIN, 3, 0, 1, 400000, 1000},
+    {"subregion_delete", bench_pairs, PLAIN, 4, 0, 1, 400000, 1000},
+    {"report_plain", bench_answering, PLAIN, 20, 4, 0, MOST, 100},
+    {"report_full", bench_answering, FULL, 20, 32644, 0, MOST, 4},
+    {"report_frames", bench_answering, LADEN, 20, 514, 0, MOST, 100},
+    {"delete_pages", bench_again, HEAVY, 23, 32, 1, MOST, 20},
+    {"audit_plain", bench_answering, PLAIN, 22, 2, 0, MOST, 20},
+    {"audit_full", bench_answering, FULL, 22, 2, 0, MOST, 2},
 };
 #define BENCHES (sizeof benches / sizeof benches[0])
 
 static void checked(const struct bench *b, uint32_t n) {
-    uint32_t sum = b->run(heap, WORDS, n);
+    uint32_t sum = b->run(heap, WORDS, b->set_up, b->which, n);
     uint32_t want = n / 2 * b->two + b->more;
     if (sum != want) {
         fprintf(stderr, "%s: %" PRIu32 " calls add up to %" PRIu32 ", not %" PRIu32 "\n", b->name, n, sum, want);

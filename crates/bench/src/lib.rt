@@ -1,6 +1,6 @@
-// What the calls cost: for each call a function that C calls, which makes a store in the heap that it is lent, then makes the call n times.
+// What the calls cost: functions that C calls, each of which makes a store in the heap that it is lent, then makes one call n times.
 // A call costs the difference of a run of 2n and one of n, divided by n: making the store cancels out.
-// Each of these functions can call itself: the compiler then leaves the calls of the store where they are, and what is measured is a call as it stands.
+// `set_up` says which store, by `prepared_for`; `which` says which call, by its number in `store::call`, of a pair by the number of one of the two.
 // Each gives a sum of the replies, so that C can see that the calls were accepted, and none of them is left out by the compiler.
 use state::Reply;
 use state::State;
@@ -29,6 +29,23 @@ fn noted(sum: u32, r: Reply) -> u32 {
     let c = std::num::wrapping_add_u32(a, b);
     let d = std::num::wrapping_add_u32(c, r.d);
     std::num::wrapping_add_u32(sum, d)
+}
+
+// Its ground of refusal alone, added to the sum.
+fn refused(sum: u32, r: Reply) -> u32 {
+    std::num::wrapping_add_u32(sum, r.refusal)
+}
+
+// The length of a part, as a reply.
+fn viewed(part: &[u32]) -> Reply {
+    let n = (part.len() % 4294967296) as u32;
+    Reply {
+        refusal: 0,
+        a: n,
+        b: 0,
+        c: 0,
+        d: 0,
+    }
 }
 
 // The sum, with the audit of the store that the calls left: 1 more.
@@ -175,478 +192,150 @@ fn heavy(heap: &mut [u32]) -> State {
     b.state
 }
 
-// Clear.
-#[no_mangle]
-pub extern "C" fn bench_clear(heap: &mut [u32], n: u32) -> u32 {
-    if MOST < n {
-        return bench_clear(heap, MOST);
+// The store of that number, 0 and any other the plain one.
+fn prepared_for(heap: &mut [u32], set_up: u32) -> State {
+    match set_up {
+        1 => stacked(heap),
+        2 => empty(heap),
+        3 => laden(heap),
+        4 => full(heap),
+        5 => heavy(heap),
+        _ => plain(heap),
     }
-    let mut s = plain(heap);
-    let mut sum: u32 = 0;
-    let mut i: u32 = 0;
-    while i < n {
-        i += 1;
-        let d = store::clear(s, heap, 0);
-        s = d.state;
-        sum = std::num::wrapping_add_u32(sum, d.reply.refusal);
-    }
-    ended(s, heap, sum)
 }
 
-// Copy.
+// The calls that change the state, each on the state that the one before left.
+// Set pointer leads into one region, then into another, so that two counts move. 100 more than a number: that call by `store::call`, with 0 for each argument.
 #[no_mangle]
-pub extern "C" fn bench_copy(heap: &mut [u32], n: u32) -> u32 {
+pub extern "C" fn bench_changing(heap: &mut [u32], set_up: u32, which: u32, n: u32) -> u32 {
+    // The compiler puts no function with large locals into one that can call itself: what is measured is a call as it stands.
     if MOST < n {
-        return bench_copy(heap, MOST);
-    }
-    let mut s = plain(heap);
-    let mut sum: u32 = 0;
-    let mut i: u32 = 0;
-    while i < n {
-        i += 1;
-        let d = store::copy(s, heap, 0, 5);
-        s = d.state;
-        sum = std::num::wrapping_add_u32(sum, d.reply.refusal);
-    }
-    ended(s, heap, sum)
-}
-
-// Fetch.
-#[no_mangle]
-pub extern "C" fn bench_fetch(heap: &mut [u32], n: u32) -> u32 {
-    if MOST < n {
-        return bench_fetch(heap, MOST);
-    }
-    let mut s = stacked(heap);
-    let mut sum: u32 = 0;
-    let mut i: u32 = 0;
-    while i < n {
-        i += 1;
-        let d = store::fetch(s, heap, 0, 0);
-        s = d.state;
-        sum = std::num::wrapping_add_u32(sum, d.reply.refusal);
-    }
-    ended(s, heap, sum)
-}
-
-// First.
-#[no_mangle]
-pub extern "C" fn bench_first(heap: &mut [u32], n: u32) -> u32 {
-    if MOST < n {
-        return bench_first(heap, MOST);
-    }
-    let mut s = plain(heap);
-    let mut sum: u32 = 0;
-    let mut i: u32 = 0;
-    while i < n {
-        i += 1;
-        let d = store::first(s, heap, 5, 2);
-        s = d.state;
-        sum = std::num::wrapping_add_u32(sum, d.reply.refusal);
-    }
-    ended(s, heap, sum)
-}
-
-// Load.
-#[no_mangle]
-pub extern "C" fn bench_load(heap: &mut [u32], n: u32) -> u32 {
-    if MOST < n {
-        return bench_load(heap, MOST);
-    }
-    let mut s = plain(heap);
-    let mut sum: u32 = 0;
-    let mut i: u32 = 0;
-    while i < n {
-        i += 1;
-        let d = store::load(s, heap, 0, 0, 5);
-        s = d.state;
-        sum = std::num::wrapping_add_u32(sum, d.reply.refusal);
-    }
-    ended(s, heap, sum)
-}
-
-// Set pointer: a free pointer that leads into one region, then into another, so that two counts move.
-#[no_mangle]
-pub extern "C" fn bench_set_pointer(heap: &mut [u32], n: u32) -> u32 {
-    if MOST < n {
-        return bench_set_pointer(heap, MOST);
-    }
-    let mut s = plain(heap);
-    let mut sum: u32 = 0;
-    let mut i: u32 = 0;
-    while i < n {
-        i += 1;
-        let d = store::set_pointer(s, heap, 0, 0, 1 + i % 2);
-        s = d.state;
-        sum = std::num::wrapping_add_u32(sum, d.reply.refusal);
-    }
-    ended(s, heap, sum)
-}
-
-// Allocate, where the newest page has room: each time on the same state.
-#[no_mangle]
-pub extern "C" fn bench_allocate(heap: &mut [u32], n: u32) -> u32 {
-    if MOST < n {
-        return bench_allocate(heap, MOST);
-    }
-    let s = plain(heap);
-    let mut t = s;
-    let mut sum: u32 = 0;
-    let mut i: u32 = 0;
-    while i < n {
-        i += 1;
-        let d = store::allocate(s, heap, 5, 2, BOTH);
-        t = d.state;
-        sum = noted(sum, d.reply);
-    }
-    ended(t, heap, sum)
-}
-
-// Allocate in a region that has no page yet: each time on the same state.
-#[no_mangle]
-pub extern "C" fn bench_allocate_page(heap: &mut [u32], n: u32) -> u32 {
-    if MOST < n {
-        return bench_allocate_page(heap, MOST);
-    }
-    let s = empty(heap);
-    let mut t = s;
-    let mut sum: u32 = 0;
-    let mut i: u32 = 0;
-    while i < n {
-        i += 1;
-        let d = store::allocate(s, heap, 5, 7, BOTH);
-        t = d.state;
-        sum = noted(sum, d.reply);
-    }
-    ended(t, heap, sum)
-}
-
-// Put.
-#[no_mangle]
-pub extern "C" fn bench_put(heap: &mut [u32], n: u32) -> u32 {
-    if MOST < n {
-        return bench_put(heap, MOST);
-    }
-    let s = plain(heap);
-    let mut sum: u32 = 0;
-    let mut i: u32 = 0;
-    while i < n {
-        i += 1;
-        let r = store::put(s, heap, 0, 1, i);
-        sum = noted(sum, r);
-    }
-    sum
-}
-
-// Get.
-#[no_mangle]
-pub extern "C" fn bench_get(heap: &mut [u32], n: u32) -> u32 {
-    if MOST < n {
-        return bench_get(heap, MOST);
-    }
-    let s = plain(heap);
-    let mut sum: u32 = 0;
-    let mut i: u32 = 0;
-    while i < n {
-        i += 1;
-        let r = store::get(s, heap, i % 2, 1);
-        sum = noted(sum, r);
-    }
-    sum
-}
-
-// View: the length of the part.
-#[no_mangle]
-pub extern "C" fn bench_view(heap: &mut [u32], n: u32) -> u32 {
-    if MOST < n {
-        return bench_view(heap, MOST);
-    }
-    let s = plain(heap);
-    let mut sum: u32 = 0;
-    let mut i: u32 = 0;
-    while i < n {
-        i += 1;
-        let part = store::view(s, heap, 3 + i % 2);
-        sum = std::num::wrapping_add_u32(sum, (part.len() % 4294967296) as u32);
-    }
-    sum
-}
-
-// Same.
-#[no_mangle]
-pub extern "C" fn bench_same(heap: &mut [u32], n: u32) -> u32 {
-    if MOST < n {
-        return bench_same(heap, MOST);
-    }
-    let s = plain(heap);
-    let mut sum: u32 = 0;
-    let mut i: u32 = 0;
-    while i < n {
-        i += 1;
-        let r = store::same(s, heap, 0, i % 2);
-        sum = noted(sum, r);
-    }
-    sum
-}
-
-// About.
-#[no_mangle]
-pub extern "C" fn bench_about(heap: &mut [u32], n: u32) -> u32 {
-    if MOST < n {
-        return bench_about(heap, MOST);
-    }
-    let s = plain(heap);
-    let mut sum: u32 = 0;
-    let mut i: u32 = 0;
-    while i < n {
-        i += 1;
-        let r = store::about(s, heap, i % 2);
-        sum = noted(sum, r);
-    }
-    sum
-}
-
-// Totals.
-#[no_mangle]
-pub extern "C" fn bench_totals(heap: &mut [u32], n: u32) -> u32 {
-    if MOST < n {
-        return bench_totals(heap, MOST);
-    }
-    let s = plain(heap);
-    let mut sum: u32 = 0;
-    let mut i: u32 = 0;
-    while i < n {
-        i += 1;
-        let r = store::totals(s);
-        sum = noted(sum, r);
-    }
-    sum
-}
-
-// Push and drop.
-#[no_mangle]
-pub extern "C" fn bench_push_drop(heap: &mut [u32], n: u32) -> u32 {
-    if MOST < n {
-        return bench_push_drop(heap, MOST);
-    }
-    let mut s = plain(heap);
-    let mut sum: u32 = 0;
-    let mut i: u32 = 0;
-    while i < n {
-        i += 1;
-        let d = store::push(s, heap, 8);
-        let e = store::drop(d.state, heap);
-        s = e.state;
-        sum = std::num::wrapping_add_u32(sum, d.reply.refusal);
-        sum = std::num::wrapping_add_u32(sum, e.reply.refusal);
-    }
-    ended(s, heap, sum)
-}
-
-// Push and hand back.
-#[no_mangle]
-pub extern "C" fn bench_push_hand_back(heap: &mut [u32], n: u32) -> u32 {
-    if MOST < n {
-        return bench_push_hand_back(heap, MOST);
-    }
-    let mut s = plain(heap);
-    let mut sum: u32 = 0;
-    let mut i: u32 = 0;
-    while i < n {
-        i += 1;
-        let d = store::push(s, heap, 8);
-        let e = store::hand_back(d.state, heap, 0, 5);
-        s = e.state;
-        sum = std::num::wrapping_add_u32(sum, d.reply.refusal);
-        sum = std::num::wrapping_add_u32(sum, e.reply.refusal);
-    }
-    ended(s, heap, sum)
-}
-
-// New region, and delete of it.
-#[no_mangle]
-pub extern "C" fn bench_region_delete(heap: &mut [u32], n: u32) -> u32 {
-    if MOST < n {
-        return bench_region_delete(heap, MOST);
-    }
-    let mut s = plain(heap);
-    let mut sum: u32 = 0;
-    let mut i: u32 = 0;
-    while i < n {
-        i += 1;
-        let d = store::new_region(s, heap);
-        let e = store::delete(d.state, heap, d.reply.a);
-        s = e.state;
-        sum = std::num::wrapping_add_u32(sum, d.reply.refusal);
-        sum = std::num::wrapping_add_u32(sum, e.reply.refusal);
-    }
-    ended(s, heap, sum)
-}
-
-// Subregion, and delete of it.
-#[no_mangle]
-pub extern "C" fn bench_subregion_delete(heap: &mut [u32], n: u32) -> u32 {
-    if MOST < n {
-        return bench_subregion_delete(heap, MOST);
-    }
-    let mut s = plain(heap);
-    let mut sum: u32 = 0;
-    let mut i: u32 = 0;
-    while i < n {
-        i += 1;
-        let d = store::subregion(s, heap, 2);
-        let e = store::delete(d.state, heap, d.reply.a);
-        s = e.state;
-        sum = std::num::wrapping_add_u32(sum, d.reply.refusal);
-        sum = std::num::wrapping_add_u32(sum, e.reply.refusal);
-    }
-    ended(s, heap, sum)
-}
-
-// Report of region 2 in the plain store, with one frame.
-#[no_mangle]
-pub extern "C" fn bench_report_plain(heap: &mut [u32], n: u32) -> u32 {
-    if MOST < n {
-        return bench_report_plain(heap, MOST);
-    }
-    let s = plain(heap);
-    let mut sum: u32 = 0;
-    let mut i: u32 = 0;
-    while i < n {
-        i += 1;
-        let r = store::report(s, heap, 2);
-        sum = noted(sum, r);
-    }
-    sum
-}
-
-// Report of region 2 in the full store.
-#[no_mangle]
-pub extern "C" fn bench_report_full(heap: &mut [u32], n: u32) -> u32 {
-    if MOST < n {
-        return bench_report_full(heap, MOST);
-    }
-    let s = full(heap);
-    let mut sum: u32 = 0;
-    let mut i: u32 = 0;
-    while i < n {
-        i += 1;
-        let r = store::report(s, heap, 2);
-        sum = noted(sum, r);
-    }
-    sum
-}
-
-// Report of region 2 with 32 frames of 8 slots, all of them uncounted and all slots leading there.
-#[no_mangle]
-pub extern "C" fn bench_report_frames(heap: &mut [u32], n: u32) -> u32 {
-    if MOST < n {
-        return bench_report_frames(heap, MOST);
-    }
-    let s = laden(heap);
-    let mut sum: u32 = 0;
-    let mut i: u32 = 0;
-    while i < n {
-        i += 1;
-        let r = store::report(s, heap, 2);
-        sum = noted(sum, r);
-    }
-    sum
-}
-
-// Delete of a region of 16 pages with 768 pointers into others: each time on the same state.
-#[no_mangle]
-pub extern "C" fn bench_delete_pages(heap: &mut [u32], n: u32) -> u32 {
-    if MOST < n {
-        return bench_delete_pages(heap, MOST);
-    }
-    let s = heavy(heap);
-    let mut t = s;
-    let mut sum: u32 = 0;
-    let mut i: u32 = 0;
-    while i < n {
-        i += 1;
-        let d = store::delete(s, heap, 5);
-        t = d.state;
-        sum = noted(sum, d.reply);
-    }
-    ended(t, heap, sum)
-}
-
-// Audit of the plain store.
-#[no_mangle]
-pub extern "C" fn bench_audit_plain(heap: &mut [u32], n: u32) -> u32 {
-    if MOST < n {
-        return bench_audit_plain(heap, MOST);
-    }
-    let s = plain(heap);
-    let mut sum: u32 = 0;
-    let mut i: u32 = 0;
-    while i < n {
-        i += 1;
-        let r = store::audit(s, heap);
-        sum = noted(sum, r);
-    }
-    sum
-}
-
-// Audit of the full store.
-#[no_mangle]
-pub extern "C" fn bench_audit_full(heap: &mut [u32], n: u32) -> u32 {
-    if MOST < n {
-        return bench_audit_full(heap, MOST);
-    }
-    let s = full(heap);
-    let mut sum: u32 = 0;
-    let mut i: u32 = 0;
-    while i < n {
-        i += 1;
-        let r = store::audit(s, heap);
-        sum = noted(sum, r);
-    }
-    sum
-}
-
-// A call by its number, with 0 for each argument: once, then n times. The number comes from C, so that no call is compiled for it alone.
-#[no_mangle]
-pub extern "C" fn bench_call(heap: &mut [u32], number: u32, n: u32) -> u32 {
-    if MOST < n {
-        return bench_call(heap, number, MOST);
+        return bench_changing(heap, set_up, which, MOST);
     }
     let none = [0u32; 0];
-    let a = plain(heap);
-    let b = store::call(a, heap, number, 0, 0, 0, &none);
-    let mut s = b.state;
+    let mut s = prepared_for(heap, set_up);
     let mut sum: u32 = 0;
     let mut i: u32 = 0;
     while i < n {
         i += 1;
-        let d = store::call(s, heap, number, 0, 0, 0, &none);
+        let d = match which {
+            9 => store::first(s, heap, 5, 2),
+            10 => store::copy(s, heap, 0, 5),
+            11 => store::fetch(s, heap, 0, 0),
+            12 => store::clear(s, heap, 0),
+            13 => store::load(s, heap, 0, 0, 5),
+            14 => store::set_pointer(s, heap, 0, 0, 1 + i % 2),
+            _ => store::call(s, heap, which % 100, 0, 0, 0, &none),
+        };
         s = d.state;
-        sum = std::num::wrapping_add_u32(sum, d.reply.refusal);
+        sum = refused(sum, d.reply);
     }
     ended(s, heap, sum)
 }
 
-// For comparison: one copy of the state, changed in one number, by turns from one local to the other.
+// Pairs of calls of which the second undoes the first.
 #[no_mangle]
-pub extern "C" fn bench_state_copy(heap: &mut [u32], n: u32) -> u32 {
+pub extern "C" fn bench_pairs(heap: &mut [u32], set_up: u32, which: u32, n: u32) -> u32 {
+    // As in `bench_changing`.
     if MOST < n {
-        return bench_state_copy(heap, MOST);
+        return bench_pairs(heap, set_up, which, MOST);
     }
-    let mut s = plain(heap);
-    let mut t = s;
+    let mut s = prepared_for(heap, set_up);
+    let mut sum: u32 = 0;
     let mut i: u32 = 0;
     while i < n {
         i += 1;
-        if i % 2 == 0 {
-            s = t;
-            s.frames.counted = 0;
-        } else {
-            t = s;
-            t.frames.counted = 1;
+        let d = match which {
+            3 => {
+                let e = store::new_region(s, heap);
+                sum = refused(sum, e.reply);
+                store::delete(e.state, heap, e.reply.a)
+            }
+            4 => {
+                let e = store::subregion(s, heap, 2);
+                sum = refused(sum, e.reply);
+                store::delete(e.state, heap, e.reply.a)
+            }
+            6 => {
+                let e = store::push(s, heap, 8);
+                sum = refused(sum, e.reply);
+                store::drop(e.state, heap)
+            }
+            _ => {
+                let e = store::push(s, heap, 8);
+                sum = refused(sum, e.reply);
+                store::hand_back(e.state, heap, 0, 5)
+            }
+        };
+        s = d.state;
+        sum = refused(sum, d.reply);
+    }
+    ended(s, heap, sum)
+}
+
+// The calls that only answer, and put.
+#[no_mangle]
+pub extern "C" fn bench_answering(heap: &mut [u32], set_up: u32, which: u32, n: u32) -> u32 {
+    // As in `bench_changing`.
+    if MOST < n {
+        return bench_answering(heap, set_up, which, MOST);
+    }
+    let s = prepared_for(heap, set_up);
+    let mut sum: u32 = 0;
+    let mut i: u32 = 0;
+    while i < n {
+        i += 1;
+        let r = match which {
+            15 => store::put(s, heap, 0, 1, i),
+            16 => store::get(s, heap, i % 2, 1),
+            17 => viewed(store::view(s, heap, 3 + i % 2)),
+            18 => store::same(s, heap, 0, i % 2),
+            19 => store::about(s, heap, i % 2),
+            20 => store::report(s, heap, 2),
+            21 => store::totals(s),
+            _ => store::audit(s, heap),
+        };
+        sum = noted(sum, r);
+    }
+    sum
+}
+
+// Calls that would use the store up, each time on the same state: 8 is allocate where the newest page has room, 108 in region 7, which has no page yet.
+// For comparison 0: one copy of the state, changed in one number.
+#[no_mangle]
+pub extern "C" fn bench_again(heap: &mut [u32], set_up: u32, which: u32, n: u32) -> u32 {
+    // As in `bench_changing`.
+    if MOST < n {
+        return bench_again(heap, set_up, which, MOST);
+    }
+    let s = prepared_for(heap, set_up);
+    let mut t = s;
+    let mut sum: u32 = 0;
+    let mut i: u32 = 0;
+    while i < n {
+        i += 1;
+        match which {
+            0 => {
+                let k = i % 2;
+                t = s;
+                t.frames.counted = k;
+            }
+            8 => {
+                let d = store::allocate(s, heap, 5, 2, BOTH);
+                t = d.state;
+                sum = noted(sum, d.reply);
+            }
+            108 => {
+                let d = store::allocate(s, heap, 5, 7, BOTH);
+                t = d.state;
+                sum = noted(sum, d.reply);
+            }
+            _ => {
+                let d = store::delete(s, heap, 5);
+                t = d.state;
+                sum = noted(sum, d.reply);
+            }
         }
     }
-    let sum = ended(s, heap, 0);
     ended(t, heap, sum)
 }
