@@ -3,21 +3,23 @@ use state::Reply;
 use state::State;
 ghost use mathlib.Core.Path.{_≡_};
 ghost use mathlib.Core.List.{[]};
-ghost use Prim.Native.Nat.{_+_, _%_};
+ghost use Prim.Native.Nat.{_+_, _%_, _<_};
 ghost use Rattle.lists.specs.Lists.{times};
 ghost use Rattle.model.specs.Model.{report};
 ghost use Rattle.outcomes.specs.Store.{targetsIn, slotsBeyondIn};
 ghost use Rattle.outcomes.specs.Outcome.{Outcome, answerOf, store};
 
-// How many slots of frame i lead into the region with that tag.
+// How many slots of frame i lead into the region with that tag. Slots past the end of the array are null, and lead into none.
 fn slots_of<'a>(widths: &'a [u8], slots: &'a [u32], owners: &'a [u8], tag: u32, i: u32) -> u32
+    requires { ⌜ 0 < tag ⌝ }
     ensures { λ r. ⌜ r ≡ times tag (targetsIn (now (widths .entry)) (now (slots .entry)) (now (owners .entry)) i) ⌝ }
 {
     let n = frames::width_at(widths, i);
+    let frame = cells::part(slots, 8 * (i as usize), n as usize);
     let mut sum: u32 = 0;
-    let mut k: u32 = 0;
-    while k < n {
-        if pages::owner_of(owners, frames::slot_at(slots, i, k)) == tag {
+    let mut k: usize = 0;
+    while k < frame.len() {
+        if pages::owner_of(owners, frame[k]) == tag {
             sum += 1;
         }
         k += 1;
@@ -35,6 +37,7 @@ fn outside<'a>(
     owners: &'a [u8],
     tag: u32,
 ) -> u32
+    requires { ⌜ 0 < tag ⌝ }
     ensures { λ r. ⌜ r ≡ (stored + slotsBeyondIn standing counted (now (widths .entry)) (now (slots .entry)) (now (owners .entry)) tag) % 4294967296 ⌝ }
 {
     let n = frames::frame_count(standing);

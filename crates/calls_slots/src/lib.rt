@@ -124,9 +124,9 @@ pub fn about(s: State, heap: &[u32], slot: u32) -> Reply
         return checks::refused(g);
     }
     let v = checks::top_slot(f.standing, &f.slots, slot);
-    let p = s.pages;
-    let e = s.regions;
-    let n = regions::name_of(&e.names, pages::owner_of(&p.owners, v));
+    let owners = s.pages.owners;
+    let names = s.regions.names;
+    let n = regions::name_of(&names, pages::owner_of(&owners, v));
     checks::gives(n, objects::kind_of(objects::object_of(heap, v)), 0, 0)
 }
 

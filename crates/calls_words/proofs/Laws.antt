@@ -32,7 +32,7 @@ use Rattle.outcomes.specs.Outcome.{store, refusal, checks, noWord, isData, allD
 use Rattle.outcomes.specs.Laws.Steps.{reason-append}
 use Rattle.checks.specs.Checks.{orElse}
 use Rattle.checks.specs.Laws.Tests.{top, one-slot, two-slots}
-use Rattle.calls_words.specs.Words.{wordTests, pointerRefusal, dataRefusal, setRefusal, countedTag, tagLeft, tagEntered}
+use Rattle.calls_words.specs.Words.{wordTests, pointerRefusal, dataRefusal, viewRefusal, setRefusal, countedTag, tagLeft, tagEntered}
 
 else-else : (a b c : ℕ) → orElse (orElse a b) c ≡ orElse a (orElse b c)
 else-else a b c = by-test (eqb a 0) (λ e. rw e) (λ e. rw (e, e))
@@ -73,7 +73,7 @@ module _ (S : Store) (s : ℕ) where
   unfolding refusal checks
   set-tests w v = reason-append (checks S (load s w v)) (breaks S (slot S s) w (slot S v) yields 17 ∷ []) refl
 
-  pub view-tests : refusal S (view s) ≡ orElse (reason (top S s s)) (reason (eqb held 0 yields 14 ∷ not (allDataIn ((kinds S) .declared) ((kinds S) .sizes) ((kinds S) .marks) (headerIn object)) yields 16 ∷ []))
+  pub view-tests : let f = frames S in let k = kinds S in refusal S (view s) ≡ viewRefusal ((pages S) .made) (f .standing) (f .widths) (f .slots) (k .declared) (k .sizes) (k .marks) (S .heap) s
   unfolding refusal checks allData Kinds.allData slot slotAt topFrame
   view-tests = rw (object-header (S .heap) held) (one-slot S (eqb held 0 yields 14 ∷ not (allDataIn ((kinds S) .declared) ((kinds S) .sizes) ((kinds S) .marks) (kindOf (S .heap) held)) yields 16 ∷ []) s)
 

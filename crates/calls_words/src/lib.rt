@@ -11,7 +11,7 @@ ghost use Rattle.model.specs.Calls.{reason};
 ghost use Rattle.regions.specs.Laws.Steps.{entering, leaving};
 ghost use Rattle.outcomes.specs.Store.{breaksIn};
 ghost use Rattle.outcomes.specs.Outcome.{Outcome, answerOf, viewAnswer, store, refusal};
-ghost use Rattle.calls_words.specs.Words.{wordTests, pointerRefusal, dataRefusal, setRefusal, countedTag, tagLeft, tagEntered};
+ghost use Rattle.calls_words.specs.Words.{wordTests, pointerRefusal, dataRefusal, viewRefusal, setRefusal, countedTag, tagLeft, tagEntered};
 
 // 14 and 15 for word w of the object that v leads to.
 fn word_refusal(declared: u32, sizes: &[u8], object: &[u32], v: u32, w: u32) -> u32
@@ -148,36 +148,75 @@ pub fn get(s: State, heap: &[u32], slot: u32, w: u32) -> Reply
     checks::gives(objects::word_at(object, w), 0, 0, 0)
 }
 
+// View's tests, for a heap of n words and what a slot of the top frame holds.
+fn unseen<'a>(
+    made: u32,
+    standing: u32,
+    widths: &'a [u8],
+    slots: &'a [u32],
+    declared: u32,
+    sizes: &'a [u8],
+    marks: &'a [u8],
+    heap: &[u32],
+    slot: u32,
+) -> u32
+    ensures { λ r. ⌜ r ≡ viewRefusal made standing (now (widths .entry)) (now (slots .entry)) declared (now (sizes .entry)) (now (marks .entry)) (now (heap .entry)) slot ⌝ }
+{
+    let g = checks::top_refusal(made, heap.len(), standing, widths, slot, slot);
+    if g != 0 {
+        return g;
+    }
+    let v = checks::top_slot(standing, slots, slot);
+    if v == 0 {
+        return 14;
+    }
+    let kind = objects::kind_of(objects::object_of(heap, v));
+    if kinds::all_data(declared, sizes, marks, kind) {
+        return 0;
+    }
+    16
+}
+
 // View's check, beside view itself.
 pub fn view_refusal(s: State, heap: &[u32], slot: u32) -> u32
     ensures { λ r. ⌜ r ≡ refusal (store s (now (heap .entry))) (view slot) ⌝ }
 {
     let f = s.frames;
-    let g = checks::top_refusal(s.pages.made, heap.len(), f.standing, &f.widths, slot, slot);
-    if g != 0 {
-        return g;
-    }
-    let v = checks::top_slot(f.standing, &f.slots, slot);
-    if v == 0 {
-        return 14;
-    }
     let k = s.kinds;
-    let kind = objects::kind_of(objects::object_of(heap, v));
-    if kinds::all_data(k.declared, &k.sizes, &k.marks, kind) {
-        return 0;
-    }
-    16
+    unseen(
+        s.pages.made,
+        f.standing,
+        &f.widths,
+        &f.slots,
+        k.declared,
+        &k.sizes,
+        &k.marks,
+        heap,
+        slot,
+    )
 }
 
 // Document 01's call 17: the object's part of the heap itself, which begins at its word 0; empty where view_refusal refuses.
 pub fn view<'a>(s: State, heap: &'a [u32], slot: u32) -> &'a [u32]
     ensures { λ r. ⌜ Outcome (view slot) (store s (now (heap .entry))) (viewAnswer (store s (now (heap .entry))) slot (now r)) (store s (now (heap .entry))) ⌝ }
 {
-    if view_refusal(s, heap, slot) != 0 {
-        return &heap[0..0];
-    }
     let f = s.frames;
     let k = s.kinds;
+    if unseen(
+        s.pages.made,
+        f.standing,
+        &f.widths,
+        &f.slots,
+        k.declared,
+        &k.sizes,
+        &k.marks,
+        heap,
+        slot,
+    )
+        != 0
+    {
+        return &heap[0..0];
+    }
     let v = checks::top_slot(f.standing, &f.slots, slot);
     let n = objects::word_count(k.declared, &k.sizes, objects::object_of(heap, v));
     cells::part(heap, v as usize, n as usize)

@@ -1,7 +1,7 @@
 // Reads and writes that are total: an index past the end reads 0 and writes nothing, as getD and set do. A word has 32 bits, a half 16, a byte 8.
 ghost use mathlib.Core.Path.{_≡_};
 ghost use mathlib.Core.List.{_∷_};
-ghost use Prim.Native.Nat.{_-_, min};
+ghost use Prim.Native.Nat.{_-_, _<_, _≤_, min};
 ghost use lib.Dec.{eqb};
 ghost use Rattle.lists.specs.Lists.{find, count, upTo};
 ghost use lib.ListN.{length, getD, set, take, drop, replicate};
@@ -105,9 +105,34 @@ pub fn count(s: &[u32], n: u32, x: u32) -> u32
     k
 }
 
+fn wide(x: u8) -> u32
+    ensures { λ r. ⌜ r ≡ x ⌝ }
+{
+    x as u32
+}
+
+// The same of bytes, where there are n.
+fn count_there(s: &[u8], n: usize, x: u32) -> u32
+    requires { ⌜ (n ≤ length (now s)) × (n < 4294967296) ⌝ }
+    ensures { λ r. ⌜ r ≡ count (λ i. eqb (getD (now (s .entry)) i 0) x) (upTo n) ⌝ }
+{
+    let mut k: u32 = 0;
+    let mut i: usize = 0;
+    while i < n {
+        if wide(s[i]) == x {
+            k += 1;
+        }
+        i += 1;
+    }
+    k
+}
+
 pub fn count_byte(s: &[u8], n: u32, x: u32) -> u32
     ensures { λ r. ⌜ r ≡ count (λ i. eqb (getD (now (s .entry)) i 0) x) (upTo n) ⌝ }
 {
+    if (n as usize) <= s.len() {
+        return count_there(s, n as usize, x);
+    }
     let mut k: u32 = 0;
     let mut i: u32 = 0;
     while i < n {

@@ -17,21 +17,24 @@ Inv-loop s n x k₀ i₀ k i = (i ≤ n) × (k ≤ i) × (k ≡ count (λ j. eqb
 abbrev μ-loop : tie.MeasureT-loop
 μ-loop s n x k₀ i₀ k i = n - i
 
+returns : tie.Need-returns Inv-loop μ-loop
+returns c = c .count-there .ensures
+
 loop-again : tie.Need-loop-again Inv-loop μ-loop
 loop-again c =
     let l = c .before .before .before in
-    let a = l .before .before .args in
+    let a = l .before .before .before .args in
     let e = count-more (a .s .now) (a .x) (l .loop .i) _ (c .before .byte .ensures) in
     ⊎-elim
     (λ w. omega (arith, rw (eq-eqb _ _ (w .0 .taken)) at e))
     (λ w. omega (arith, rw (ne-eqb _ _ (w .0 .left)) at e))
-    (c .if1 .came)
+    (c .if2 .came)
 
-returns : tie.Need-returns Inv-loop μ-loop
-returns c =
+returns-2 : tie.Need-returns-2 Inv-loop μ-loop
+returns-2 c =
     let l = c .before in
-    let e : l .loop .i ≡ l .before .before .args .n = omega arith in
+    let e : l .loop .i ≡ l .before .before .before .args .n = omega arith in
     rw (← e) (l .loop .inv .2)
 
 pub count-byte-spec : {M : Type 1} → statement M
-count-byte-spec = tie.close (tie.spec Inv-loop μ-loop (λ c. search needs) (λ c. search needs) (λ c κs. search needs) (λ c. search needs) (λ c. search needs) (λ c. search needs) loop-again returns)
+count-byte-spec = tie.close (tie.spec Inv-loop μ-loop (λ c κs. search needs) returns (λ c. search needs) (λ c. search needs) (λ c κs. search needs) (λ c. search needs) (λ c. search needs) (λ c. search needs) loop-again returns-2)

@@ -1,18 +1,15 @@
--- Laws of `every` over lists that are mapped, kept and joined, of loops that decide it, and of tests that one number alone can pass.
+-- Laws of `every` over lists that are mapped, kept and joined, and of loops that decide it.
 -- Assumes nothing.
 use mathlib.Core.Path.{_≡_, refl, sym, ap, ap₂, _∙_}
-use mathlib.Core.Logic.{_≢_, _⊎_, inl, inr}
 use mathlib.Core.Bool.{Bool, true, false, not, _&&_, _||_, true≢false, false≢true}
 use mathlib.Core.List.{List, [], _∷_, map}
 use Prim.Native.Nat.{ℕ, _+_, _≤_, _<_}
 use native.Mathlib.Omega.{arith}
-use lib.Dec.{ltb}
 use borrow.Author.Count.{below-none, below-more}
-use borrow.Author.Tests.{ltb-true, ltb-false}
-use Rattle.lists.specs.Lists.{pick, any, every, keep, equal, All, joined, upTo}
-use Rattle.lists.specs.Laws.Tests.{both, by-test, by-same}
+use Rattle.lists.specs.Lists.{pick, every, keep, equal, All, joined, upTo}
+use Rattle.lists.specs.Laws.Tests.{both, by-test}
 use Rattle.lists.specs.Laws.Finds.{every-append}
-use Rattle.lists.specs.Laws.UpTo.{all-upTo, every-each, each-every, any-one, none-any}
+use Rattle.lists.specs.Laws.UpTo.{all-upTo, every-each, each-every}
 
 module _ {A B : Type 0} where
   pub every-map : (f : B → Bool) (g : A → B) (l : List A) → every f (map g l) ≡ every (λ x. f (g x)) l
@@ -73,16 +70,3 @@ module _ (f : ℕ → Bool) (n i : ℕ) where
 
   pub passed-all : Passed f n i → n ≤ i → true ≡ every f (upTo n)
   passed-all p h = sym (each-every f n (λ j k. p .1 j (omega arith)))
-
--- no other number than k passes
-pub any-single : (f : ℕ → Bool) (n k : ℕ) → ((i : ℕ) → i ≢ k → f i ≡ false) → any f (upTo n) ≡ (ltb k n && f k)
-any-single f n k others = go (ltb k n) refl (f k) refl
-  where
-    go : (a : Bool) → ltb k n ≡ a → (b : Bool) → f k ≡ b → any f (upTo n) ≡ (a && b)
-    go true p true q = any-one f n k (ltb-true k n p) q
-    go true p false q = none-any f n (λ i h. each i (by-same i k))
-      where
-        each : (i : ℕ) → (i ≡ k) ⊎ (i ≢ k) → f i ≡ false
-        each i (inl e) = ap f e ∙ q
-        each i (inr e) = others i e
-    go false p b q = none-any f n (λ i h. others i (λ e. omega (arith, ltb-false k n p)))

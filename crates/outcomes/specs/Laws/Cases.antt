@@ -26,11 +26,12 @@ counted = let f = frames three in withFrames three (record { standing = f .stand
 -- what is computed, and what it has to be
 abbrev cases : List (ℕ × ℕ)
 cases =
-    -- first_of_entry_0, copy_of_itself, clear_leaves_a_pointer, same_says_no
+    -- first_of_entry_0, copy_of_itself, clear_leaves_a_pointer, same_says_no, same_of_one_slot
     (slot (fillSlot three 1 (oldestAt (regions three) (entryOf (regions three) 5))) 1, 65)
     ∷ (slot (fillSlot three 1 (slot three 0)) 1, 68)
     ∷ (slot (fillSlot three 0 0) 0, 0)
     ∷ (bit (eqb (slot three 0) (slot three 0)), 1)
+    ∷ (bit (eqb (slot three 0) (slot three 1)), 0)
     -- fetch_tests_the_wrong_frames: the frame beneath has one slot, the top two
     ∷ (refusal three (fetch 0 1), 0)
     ∷ (refusal three (fetch 1 0), 9)

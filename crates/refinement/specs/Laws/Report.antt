@@ -1,4 +1,4 @@
--- The outside pointers that are counted in a store are the model's.
+-- What is added up over the pages of a store comes to the same over the model's objects; and report's outside pointers are the model's.
 -- Assumes nothing.
 use mathlib.Core.Path.{_≡_, refl, sym, ap, _∙_, fun-ext}
 use mathlib.Core.Logic.{inl, inr, _≢_}
