@@ -62,7 +62,8 @@ pub fn report(s: State, heap: &[u32], region: u32) -> Reply
         return checks::refused(g);
     }
     let f = s.frames;
-    let t = e + 1;
+    // The entry is below 64 here. `least` keeps the compiler from working the tag out again at every slot.
+    let t = cells::least(e, 63) + 1;
     let stored = regions::count_at(&r.counts, e);
     checks::gives(
         stored,

@@ -7,7 +7,7 @@ use mathlib.Core.Logic.{inl}
 use Prim.Native.Nat.{ℕ, _+_}
 use native.Mathlib.Omega.{arith}
 use lib.Dec.{eqb, leb}
-use lib.ListN.{set}
+use lib.ListN.{length, set}
 use borrow.Author.Tests.{eqb-false, leb-false}
 use Rattle.lists.specs.Lists.{pick}
 use Rattle.lists.specs.Laws.Tests.{by-test}
@@ -73,7 +73,7 @@ module _ (S : Store) (s : ℕ) where
   unfolding refusal checks
   set-tests w v = reason-append (checks S (load s w v)) (breaks S (slot S s) w (slot S v) yields 17 ∷ []) refl
 
-  pub view-tests : let f = frames S in let k = kinds S in refusal S (view s) ≡ viewRefusal ((pages S) .made) (f .standing) (f .widths) (f .slots) (k .declared) (k .sizes) (k .marks) (S .heap) s
+  pub view-tests : let f = frames S in let k = kinds S in refusal S (view s) ≡ viewRefusal ((pages S) .made) (length (S .heap)) (f .standing) (f .widths) (k .declared) (k .sizes) (k .marks) object held s
   unfolding refusal checks allData Kinds.allData slot slotAt topFrame
   view-tests = rw (object-header (S .heap) held) (one-slot S (eqb held 0 yields 14 ∷ not (allDataIn ((kinds S) .declared) ((kinds S) .sizes) ((kinds S) .marks) (kindOf (S .heap) held)) yields 16 ∷ []) s)
 

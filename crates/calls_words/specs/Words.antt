@@ -5,13 +5,11 @@ use mathlib.Core.Bool.{Bool, not, _&&_}
 use mathlib.Core.List.{List, [], _∷_}
 use Prim.Native.Nat.{ℕ}
 use lib.Dec.{eqb, leb}
-use lib.ListN.{length}
 use Rattle.lists.specs.Lists.{pick}
 use Rattle.model.specs.Calls.{reason, _yields_}
-use Rattle.frames.specs.Frames.{topIn, slotIn}
 use Rattle.kinds.specs.Kinds.{sizeIn, markIn, allDataIn}
 use Rattle.pages.specs.Pages.{ownerIn}
-use Rattle.objects.specs.Parts.{objectOf, headerIn, wordIn}
+use Rattle.objects.specs.Parts.{headerIn, wordIn}
 use Rattle.outcomes.specs.Store.{breaksIn}
 use Rattle.checks.specs.Checks.{orElse, topTests}
 
@@ -26,11 +24,10 @@ pointerRefusal declared sizes marks object v w = orElse (reason (wordTests decla
 abbrev pub dataRefusal : ℕ → List ℕ → List ℕ → List ℕ → ℕ → ℕ → ℕ
 dataRefusal declared sizes marks object v w = orElse (reason (wordTests declared sizes object v w)) (reason (not (eqb (markIn marks (headerIn object) w) 0) yields 16 ∷ []))
 
--- why the object in a slot cannot be viewed; 0 where it can
-abbrev pub viewRefusal : ℕ → ℕ → List ℕ → List ℕ → ℕ → List ℕ → List ℕ → List ℕ → ℕ → ℕ
-viewRefusal made standing widths slots declared sizes marks heap s =
-    let v = slotIn slots (topIn standing) s in
-    orElse (reason (topTests made (length heap) standing widths s s)) (reason (eqb v 0 yields 14 ∷ not (allDataIn declared sizes marks (headerIn (objectOf heap v))) yields 16 ∷ []))
+-- why the object in slot s, which v leads to, cannot be viewed; 0 where it can
+abbrev pub viewRefusal : ℕ → ℕ → ℕ → List ℕ → ℕ → List ℕ → List ℕ → List ℕ → ℕ → ℕ → ℕ
+viewRefusal made n standing widths declared sizes marks object v s =
+    orElse (reason (topTests made n standing widths s s)) (reason (eqb v 0 yields 14 ∷ not (allDataIn declared sizes marks (headerIn object)) yields 16 ∷ []))
 
 -- why word w of the object that v leads to cannot get x; 0 where it can
 abbrev pub setRefusal : ℕ → List ℕ → List ℕ → List ℕ → List ℕ → List ℕ → List ℕ → ℕ → ℕ → ℕ → ℕ

@@ -148,30 +148,29 @@ pub fn get(s: State, heap: &[u32], slot: u32, w: u32) -> Reply
     checks::gives(objects::word_at(object, w), 0, 0, 0)
 }
 
-// View's tests, for a heap of n words and what a slot of the top frame holds.
+// View's tests, for a heap of n words and an object that a slot of the top frame leads to by the pointer v.
 fn unseen<'a>(
     made: u32,
+    n: usize,
     standing: u32,
-    widths: &'a [u8],
-    slots: &'a [u32],
+    widths: &[u8],
     declared: u32,
     sizes: &'a [u8],
     marks: &'a [u8],
-    heap: &[u32],
+    object: &[u32],
+    v: u32,
     slot: u32,
 ) -> u32
-    ensures { λ r. ⌜ r ≡ viewRefusal made standing (now (widths .entry)) (now (slots .entry)) declared (now (sizes .entry)) (now (marks .entry)) (now (heap .entry)) slot ⌝ }
+    ensures { λ r. ⌜ r ≡ viewRefusal made n standing (now (widths .entry)) declared (now (sizes .entry)) (now (marks .entry)) (now (object .entry)) v slot ⌝ }
 {
-    let g = checks::top_refusal(made, heap.len(), standing, widths, slot, slot);
+    let g = checks::top_refusal(made, n, standing, widths, slot, slot);
     if g != 0 {
         return g;
     }
-    let v = checks::top_slot(standing, slots, slot);
     if v == 0 {
         return 14;
     }
-    let kind = objects::kind_of(objects::object_of(heap, v));
-    if kinds::all_data(declared, sizes, marks, kind) {
+    if kinds::all_data(declared, sizes, marks, objects::kind_of(object)) {
         return 0;
     }
     16
@@ -183,15 +182,18 @@ pub fn view_refusal(s: State, heap: &[u32], slot: u32) -> u32
 {
     let f = s.frames;
     let k = s.kinds;
+    let v = checks::top_slot(f.standing, &f.slots, slot);
+    let object = objects::object_of(heap, v);
     unseen(
         s.pages.made,
+        heap.len(),
         f.standing,
         &f.widths,
-        &f.slots,
         k.declared,
         &k.sizes,
         &k.marks,
-        heap,
+        object,
+        v,
         slot,
     )
 }
@@ -202,23 +204,24 @@ pub fn view<'a>(s: State, heap: &'a [u32], slot: u32) -> &'a [u32]
 {
     let f = s.frames;
     let k = s.kinds;
-    if unseen(
+    let v = checks::top_slot(f.standing, &f.slots, slot);
+    let object = objects::object_of(heap, v);
+    let g = unseen(
         s.pages.made,
+        heap.len(),
         f.standing,
         &f.widths,
-        &f.slots,
         k.declared,
         &k.sizes,
         &k.marks,
-        heap,
+        object,
+        v,
         slot,
-    )
-        != 0
-    {
+    );
+    if g != 0 {
         return &heap[0..0];
     }
-    let v = checks::top_slot(f.standing, &f.slots, slot);
-    let n = objects::word_count(k.declared, &k.sizes, objects::object_of(heap, v));
+    let n = objects::word_count(k.declared, &k.sizes, object);
     cells::part(heap, v as usize, n as usize)
 }
 

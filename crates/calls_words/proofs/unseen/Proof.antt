@@ -7,26 +7,21 @@ returns : tie.Need-returns
 returns c = rw (← c .before .top-refusal .ensures) (simp (ne-eqb _ _ (c .if1 .taken)))
 
 returns-2 : tie.Need-returns-2
-returns-2 c =
-    let v = c .before in
-    let t = v .before in
-    rw (← t .before .top-refusal .ensures, ← v .top-slot .ensures) (simp (eq-eqb _ _ (t .if1 .left), eq-eqb _ _ (c .if2 .taken)))
+returns-2 c = let t = c .before in rw (← t .before .top-refusal .ensures) (simp (eq-eqb _ _ (t .if1 .left), eq-eqb _ _ (c .if2 .taken)))
 
 returns-3 : tie.Need-returns-3
 returns-3 c =
     let k = c .before .before in
-    let i = k .before .before in
-    let v = i .before in
-    let t = v .before in
-    rw (← t .before .top-refusal .ensures, ← v .top-slot .ensures, ← k .before .object-of .ensures, ← k .kind-of .ensures, ← c .before .all-data .ensures) (simp (eq-eqb _ _ (t .if1 .left), ne-eqb _ _ (i .if2 .left), c .if3 .taken))
+    let i = k .before in
+    let t = i .before in
+    rw (← t .before .top-refusal .ensures, ← k .kind-of .ensures, ← c .before .all-data .ensures) (simp (eq-eqb _ _ (t .if1 .left), ne-eqb _ _ (i .if2 .left), c .if3 .taken))
 
 returns-4 : tie.Need-returns-4
 returns-4 c =
     let k = c .before .before in
-    let i = k .before .before in
-    let v = i .before in
-    let t = v .before in
-    rw (← t .before .top-refusal .ensures, ← v .top-slot .ensures, ← k .before .object-of .ensures, ← k .kind-of .ensures, ← c .before .all-data .ensures) (simp (eq-eqb _ _ (t .if1 .left), ne-eqb _ _ (i .if2 .left), c .if3 .left))
+    let i = k .before in
+    let t = i .before in
+    rw (← t .before .top-refusal .ensures, ← k .kind-of .ensures, ← c .before .all-data .ensures) (simp (eq-eqb _ _ (t .if1 .left), ne-eqb _ _ (i .if2 .left), c .if3 .left))
 
 pub unseen-spec : {M : Type 1} → statement M
-unseen-spec = tie.close (tie.spec (λ c κs. search needs) returns (λ c κs. search needs) returns-2 (λ c κs. search needs) (λ c κs. search needs) (λ c κs. search needs) returns-3 returns-4)
+unseen-spec = tie.close (tie.spec (λ c κs. search needs) returns returns-2 (λ c κs. search needs) (λ c κs. search needs) returns-3 returns-4)
