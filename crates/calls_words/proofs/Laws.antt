@@ -15,7 +15,7 @@ use Rattle.model.specs.Model.{load, setPointer, put, get, view}
 use Rattle.model.specs.Calls.{reason, _yields_}
 use Rattle.frames.specs.Frames.{slotIn, slotAt, topIn, topFrame}
 use Rattle.kinds.specs.Kinds as Kinds
-use Rattle.kinds.specs.Kinds.{sizeOf, sizeIn, markAt, markIn, allDataIn}
+use Rattle.kinds.specs.Kinds.{sizeOf, sizeIn, markAt, markIn}
 use Rattle.regions.specs.declared.Regions.{Regions}
 use Rattle.regions.specs.Regions.{moved, withCounts, recount, nameOf, parentAt}
 use Rattle.regions.specs.Laws.Steps.{steps, entering, leaving}
@@ -73,9 +73,10 @@ module _ (S : Store) (s : ℕ) where
   unfolding refusal checks
   set-tests w v = reason-append (checks S (load s w v)) (breaks S (slot S s) w (slot S v) yields 17 ∷ []) refl
 
-  pub view-tests : let f = frames S in let k = kinds S in refusal S (view s) ≡ viewRefusal ((pages S) .made) (length (S .heap)) (f .standing) (f .widths) (k .declared) (k .sizes) (k .marks) object held s
-  unfolding refusal checks allData Kinds.allData slot slotAt topFrame
-  view-tests = rw (object-header (S .heap) held) (one-slot S (eqb held 0 yields 14 ∷ not (allDataIn ((kinds S) .declared) ((kinds S) .sizes) ((kinds S) .marks) (kindOf (S .heap) held)) yields 16 ∷ []) s)
+  pub view-tests : let f = frames S in let k = kinds S in let n = headerIn object in
+      refusal S (view s) ≡ viewRefusal ((pages S) .made) (length (S .heap)) (f .standing) (f .widths) (k .marks) n (sizeIn (k .declared) (k .sizes) n) held s
+  unfolding refusal checks allData Kinds.allData slot slotAt topFrame markAt sizeOf
+  view-tests = rw (object-header (S .heap) held) (one-slot S (eqb held 0 yields 14 ∷ not (Kinds.allData (kinds S) (kindOf (S .heap) held)) yields 16 ∷ []) s)
 
   -- the mark's rule by the parts that it reads
   breaks-in : (w x : ℕ) → breaks S held w x ≡ breaksIn ((regions S) .names) ((regions S) .parents) (mark w) (ownerIn ((pages S) .owners) held) x (ownerIn ((pages S) .owners) x)

@@ -5,9 +5,9 @@ use mathlib.Core.Bool.{Bool, not, _&&_}
 use mathlib.Core.List.{List, [], _∷_}
 use Prim.Native.Nat.{ℕ}
 use lib.Dec.{eqb, leb}
-use Rattle.lists.specs.Lists.{pick}
+use Rattle.lists.specs.Lists.{pick, every, upTo}
 use Rattle.model.specs.Calls.{reason, _yields_}
-use Rattle.kinds.specs.Kinds.{sizeIn, markIn, allDataIn}
+use Rattle.kinds.specs.Kinds.{sizeIn, markIn}
 use Rattle.pages.specs.Pages.{ownerIn}
 use Rattle.objects.specs.Parts.{headerIn, wordIn}
 use Rattle.outcomes.specs.Store.{breaksIn}
@@ -24,10 +24,10 @@ pointerRefusal declared sizes marks object v w = orElse (reason (wordTests decla
 abbrev pub dataRefusal : ℕ → List ℕ → List ℕ → List ℕ → ℕ → ℕ → ℕ
 dataRefusal declared sizes marks object v w = orElse (reason (wordTests declared sizes object v w)) (reason (not (eqb (markIn marks (headerIn object) w) 0) yields 16 ∷ []))
 
--- why the object in slot s, which v leads to, cannot be viewed; 0 where it can
-abbrev pub viewRefusal : ℕ → ℕ → ℕ → List ℕ → ℕ → List ℕ → List ℕ → List ℕ → ℕ → ℕ → ℕ
-viewRefusal made n standing widths declared sizes marks object v s =
-    orElse (reason (topTests made n standing widths s s)) (reason (eqb v 0 yields 14 ∷ not (allDataIn declared sizes marks (headerIn object)) yields 16 ∷ []))
+-- why an object of that kind and size cannot be viewed, which slot s leads to by the pointer v; 0 where it can
+abbrev pub viewRefusal : ℕ → ℕ → ℕ → List ℕ → List ℕ → ℕ → ℕ → ℕ → ℕ → ℕ
+viewRefusal made n standing widths marks kind size v s =
+    orElse (reason (topTests made n standing widths s s)) (reason (eqb v 0 yields 14 ∷ not (every (λ w. eqb (markIn marks kind w) 0) (upTo size)) yields 16 ∷ []))
 
 -- why word w of the object that v leads to cannot get x; 0 where it can
 abbrev pub setRefusal : ℕ → List ℕ → List ℕ → List ℕ → List ℕ → List ℕ → List ℕ → ℕ → ℕ → ℕ → ℕ

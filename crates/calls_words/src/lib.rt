@@ -148,20 +148,19 @@ pub fn get(s: State, heap: &[u32], slot: u32, w: u32) -> Reply
     checks::gives(objects::word_at(object, w), 0, 0, 0)
 }
 
-// View's tests, for a heap of n words and an object that a slot of the top frame leads to by the pointer v.
-fn unseen<'a>(
+// View's tests, for a heap of n words, and in a slot of the top frame the pointer v to an object of that kind, which has `size` words.
+fn unseen(
     made: u32,
     n: usize,
     standing: u32,
     widths: &[u8],
-    declared: u32,
-    sizes: &'a [u8],
-    marks: &'a [u8],
-    object: &[u32],
+    marks: &[u8],
+    kind: u32,
+    size: u32,
     v: u32,
     slot: u32,
 ) -> u32
-    ensures { λ r. ⌜ r ≡ viewRefusal made n standing (now (widths .entry)) declared (now (sizes .entry)) (now (marks .entry)) (now (object .entry)) v slot ⌝ }
+    ensures { λ r. ⌜ r ≡ viewRefusal made n standing (now (widths .entry)) (now (marks .entry)) kind size v slot ⌝ }
 {
     let g = checks::top_refusal(made, n, standing, widths, slot, slot);
     if g != 0 {
@@ -170,7 +169,7 @@ fn unseen<'a>(
     if v == 0 {
         return 14;
     }
-    if kinds::all_data(declared, sizes, marks, objects::kind_of(object)) {
+    if kinds::all_data(marks, kind, size) {
         return 0;
     }
     16
@@ -183,16 +182,17 @@ pub fn view_refusal(s: State, heap: &[u32], slot: u32) -> u32
     let f = s.frames;
     let k = s.kinds;
     let v = checks::top_slot(f.standing, &f.slots, slot);
-    let object = objects::object_of(heap, v);
+    let kind = objects::kind_of(objects::object_of(heap, v));
+    let size = kinds::size_of(k.declared, &k.sizes, kind);
+    let n = heap.len();
     unseen(
         s.pages.made,
-        heap.len(),
+        n,
         f.standing,
         &f.widths,
-        k.declared,
-        &k.sizes,
         &k.marks,
-        object,
+        kind,
+        size,
         v,
         slot,
     )
@@ -205,24 +205,24 @@ pub fn view<'a>(s: State, heap: &'a [u32], slot: u32) -> &'a [u32]
     let f = s.frames;
     let k = s.kinds;
     let v = checks::top_slot(f.standing, &f.slots, slot);
-    let object = objects::object_of(heap, v);
+    let kind = objects::kind_of(objects::object_of(heap, v));
+    let size = kinds::size_of(k.declared, &k.sizes, kind);
+    let n = heap.len();
     let g = unseen(
         s.pages.made,
-        heap.len(),
+        n,
         f.standing,
         &f.widths,
-        k.declared,
-        &k.sizes,
         &k.marks,
-        object,
+        kind,
+        size,
         v,
         slot,
     );
     if g != 0 {
         return &heap[0..0];
     }
-    let n = objects::word_count(k.declared, &k.sizes, object);
-    cells::part(heap, v as usize, n as usize)
+    cells::part(heap, v as usize, size as usize)
 }
 
 // Whether a word marked m of an object of the region with tag h may not get x, which leads into the region with tag `to`.

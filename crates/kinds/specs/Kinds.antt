@@ -44,8 +44,5 @@ unfoldable pub wrongMarks : List ℕ → Bool
 wrongMarks ms = eqb (length ms) 0 || ltb 16 (length ms) || any (ltb 4) ms
 
 -- every word of kind n is data
-unfoldable pub allDataIn : ℕ → List ℕ → List ℕ → ℕ → Bool
-allDataIn declared sizes marks n = every (λ w. eqb (markIn marks n w) 0) (upTo (sizeIn declared sizes n))
-
 unfoldable pub allData : Kinds → ℕ → Bool
-allData k n = allDataIn (k .declared) (k .sizes) (k .marks) n
+allData k n = every (λ w. eqb (markAt k n w) 0) (upTo (sizeOf k n))

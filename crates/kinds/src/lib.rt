@@ -7,7 +7,7 @@ ghost use lib.ListN.{set};
 ghost use lib.Seq.{sets};
 ghost use Rattle.lists.specs.Lists.{any, every, upTo};
 ghost use Rattle.model.specs.Model.{rule};
-ghost use Rattle.kinds.specs.Kinds.{kindCountIn, sizeIn, markIn, wrongMarks, allDataIn};
+ghost use Rattle.kinds.specs.Kinds.{kindCountIn, sizeIn, markIn, wrongMarks};
 
 // Kind k, from 1 on, has sizes[k - 1] words; the mark of its word w stands at 16 * (k - 1) + w.
 pub struct Kinds {
@@ -83,7 +83,7 @@ pub fn put_size(sizes: &mut [u8; 16], i: u32, n: u8)
 }
 
 // Whether the first `size` marks of kind n are 0.
-fn all_zero(marks: &[u8], n: u32, size: u32) -> bool
+pub fn all_data(marks: &[u8], n: u32, size: u32) -> bool
     ensures { λ r. ⌜ r ≡ every (λ w. eqb (markIn (now (marks .entry)) n w) 0) (upTo size) ⌝ }
 {
     let at = 16 * (cells::less(n) as usize);
@@ -95,13 +95,6 @@ fn all_zero(marks: &[u8], n: u32, size: u32) -> bool
         w += 1;
     }
     true
-}
-
-pub fn all_data<'a>(declared: u32, sizes: &'a [u8], marks: &'a [u8], n: u32) -> bool
-    ensures { λ r. ⌜ r ≡ allDataIn declared (now (sizes .entry)) (now (marks .entry)) n ⌝ }
-{
-    let size = size_of(declared, sizes, n);
-    all_zero(marks, n, size)
 }
 
 // Whether a word marked k, of an object of the region named h below the region named u, may lead into the region named t.

@@ -11,17 +11,15 @@ returns-2 c = let t = c .before in rw (← t .before .top-refusal .ensures) (sim
 
 returns-3 : tie.Need-returns-3
 returns-3 c =
-    let k = c .before .before in
-    let i = k .before in
+    let i = c .before .before in
     let t = i .before in
-    rw (← t .before .top-refusal .ensures, ← k .kind-of .ensures, ← c .before .all-data .ensures) (simp (eq-eqb _ _ (t .if1 .left), ne-eqb _ _ (i .if2 .left), c .if3 .taken))
+    rw (← t .before .top-refusal .ensures, ← c .before .all-data .ensures) (simp (eq-eqb _ _ (t .if1 .left), ne-eqb _ _ (i .if2 .left), c .if3 .taken))
 
 returns-4 : tie.Need-returns-4
 returns-4 c =
-    let k = c .before .before in
-    let i = k .before in
+    let i = c .before .before in
     let t = i .before in
-    rw (← t .before .top-refusal .ensures, ← k .kind-of .ensures, ← c .before .all-data .ensures) (simp (eq-eqb _ _ (t .if1 .left), ne-eqb _ _ (i .if2 .left), c .if3 .left))
+    rw (← t .before .top-refusal .ensures, ← c .before .all-data .ensures) (simp (eq-eqb _ _ (t .if1 .left), ne-eqb _ _ (i .if2 .left), c .if3 .left))
 
 pub unseen-spec : {M : Type 1} → statement M
-unseen-spec = tie.close (tie.spec (λ c κs. search needs) returns returns-2 (λ c κs. search needs) (λ c κs. search needs) returns-3 returns-4)
+unseen-spec = tie.close (tie.spec (λ c κs. search needs) returns returns-2 (λ c κs. search needs) returns-3 returns-4)

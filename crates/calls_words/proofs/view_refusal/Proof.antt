@@ -5,7 +5,11 @@ use Rattle.calls_words.proofs.view_refusal.Statement.{statement}
 use Rattle.calls_words.proofs.view_refusal.Tie as tie
 
 returns : tie.Need-returns
-returns c = let o = c .before .before .before .before .before .before .before .before .before in c .unseen .ensures ∙ rw (o .object-of .ensures, o .before .top-slot .ensures) (sym (view-tests _ _))
+returns c =
+    let z = c .before .before .before .before .before .before .before in
+    let h = z .before .before .before .before in
+    let o = h .before in
+    c .unseen .ensures ∙ rw (z .size-of .ensures, h .kind-of .ensures, o .object-of .ensures, o .before .top-slot .ensures) (sym (view-tests _ _))
 
 pub view-refusal-spec : {M : Type 1} → statement M
-view-refusal-spec = tie.close (tie.spec (λ c κs. search needs) (λ c κs. search needs) (λ c κs. search needs) returns)
+view-refusal-spec = tie.close (tie.spec (λ c κs. search needs) (λ c κs. search needs) (λ c κs. search needs) (λ c κs. search needs) (λ c κs. search needs) returns)

@@ -18,7 +18,7 @@ use Rattle.model.specs.Calls.{checks, refusal, lacks, noFrame, oneFrame, null, 
 use Rattle.model.specs.Valid.{Valid}
 use Rattle.model.specs.Laws.Slots.{held-lives}
 use Rattle.model.specs.Laws.Counts.{outside-stored}
-use Rattle.kinds.specs.Kinds.{sizeOf, markAt as kindMark, wrongMarks, allDataIn, allData as onlyData}
+use Rattle.kinds.specs.Kinds.{sizeOf, markAt as kindMark, wrongMarks, allData as onlyData}
 use Rattle.regions.specs.Regions.{countAt, nameOf, entryOf, tagOf, parentAt, newestAt}
 use Rattle.pages.specs.Pages.{takenAt, ownerOf}
 use Rattle.outcomes.specs.Store.{Store, frames, kinds, regions, pages, slot as storeSlot, slotTargets, uncountedIn, slotsBeyondIn, slotsBeyond, ledIn, ledInto, breaks, roomy, size as storeSize, breaksIn, roomyIn}
@@ -90,7 +90,7 @@ module _ {L : Model} {sp : List ℕ} {ids : ℕ → List ℕ} {S : Store} (v : V
     data-is w n = rw (slot-is h s k) (ap (λ m. eqb m 0) (mark-is (h .onObjects) (h .onKinds) v (slot L s) w (top-known v s) (leb-false (length ((held L s) .words)) w n)))
 
     all-data : allData S s ≡ every (eqb 0) (heldMarks L s)
-    unfolding allData onlyData allDataIn sizeOf kindMark
+    unfolding allData onlyData sizeOf kindMark
     all-data =
         rw (slot-is h s k, kind-is (h .onObjects) (slot L s) (top-known v s), h .onKinds .sizes ((held L s) .kind))
         (every-same _ _ (upTo (length (heldMarks L s))) (all-upTo _ (length (heldMarks L s)) (λ w b. rw (h .onKinds .marked ((held L s) .kind) w b) (eqb-sym (markAt L s w) 0)))
