@@ -288,7 +288,7 @@ pub extern "C" fn bench_answering(heap: &mut [u32], set_up: u32, which: u32, n: 
         let r = match which {
             15 => store::put(s, heap, 0, 1, i),
             16 => store::get(s, heap, i % 2, 1),
-            17 => viewed(store::view(s, heap, 3)),
+            17 => viewed(store::view(s, heap, 3 + i % 2)),
             18 => store::same(s, heap, 0, i % 2),
             19 => store::about(s, heap, i % 2),
             20 => store::report(s, heap, 2),

@@ -40,7 +40,7 @@ abbrev μ-loop : bench-answering-lts.MeasureT-loop
 pub +bench-answering-spec : {M : Type 1} → statement M
 +bench-answering-spec = close μ-bench-answering (λ t. bench-answering-lts.spec (bench-answering-below t, bench-answering.Post, prepared-for-reads.Asked, prepared-for-reads.Learnt, put-reads.Asked, put-reads.Learnt, get-reads.Asked, get-reads.Learnt, view-reads.Asked, view-reads.Learnt, viewed-reads.Asked, viewed-reads.Learnt, same-reads.Asked, same-reads.Learnt, about-reads.Asked, about-reads.Learnt, report-reads.Asked, report-reads.Learnt, totals-reads.Asked, totals-reads.Learnt, audit-reads.Asked, audit-reads.Learnt, noted-reads.Asked, noted-reads.Learnt) (bench-answering-at t) bench-answering.Post Inv-loop μ-loop
     (λ c κs. search needs) (λ c. search needs) (λ c. search needs) (λ c κs. search needs) (λ c. search needs) (λ c. search needs)
-    (λ c κs. search needs) (λ c κs. search needs) (λ c κs. search needs) (λ c κs. search needs) (λ c κs. search needs) (λ c κs. search needs) (λ c κs. search needs) (λ c κs. search needs) (λ c κs. search needs)
+    (λ c κs. search needs) (λ c κs. search needs) (λ c. search needs) (λ c κs. search needs) (λ c κs. search needs) (λ c κs. search needs) (λ c κs. search needs) (λ c κs. search needs) (λ c κs. search needs) (λ c κs. search needs)
     (λ c κs. search needs) (λ c. search needs)
     (λ c. ⊎-elim (λ w. search needs)
     (⊎-elim (λ w. search needs)
