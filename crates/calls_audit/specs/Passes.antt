@@ -1,46 +1,16 @@
--- The audit's test of the stored counts, and all its tests together, as code runs them (document 01, Audit).
+-- All tests of the audit together, as code runs them (document 01, Audit).
 -- Assumes nothing.
-use mathlib.Core.Bool.{Bool, _&&_, _||_}
-use mathlib.Core.List.{List, [], _++_}
+use mathlib.Core.Bool.{Bool, _&&_}
+use mathlib.Core.List.{List}
 use Prim.Native.Nat.{ℕ}
-use lib.Dec.{eqb}
-use lib.ListN.{length, getD, replicate}
-use Rattle.lists.specs.Lists.{pick, every, joined, upTo}
-use Rattle.kinds.specs.declared.Kinds.{Kinds}
+use lib.ListN.{length, replicate}
 use Rattle.kinds.specs.Kinds.{kindsWith}
-use Rattle.regions.specs.Laws.Steps.{leavings}
-use Rattle.pages.specs.Pages.{pageCountIn, takenIn}
-use Rattle.objects.specs.Objects.{outOf, freeWordsTo}
 use Rattle.state.specs.declared.State.{State}
-use Rattle.outcomes.specs.Store.{targetsIn}
 use Rattle.audit_state.specs.Fits.{stateFitsIn}
-use Rattle.audit_heap.specs.Heap.{pagesFit, allHeaders, ticked, headAt, entriesOwn, framesLead}
+use Rattle.audit_heap.specs.Heap.{pagesFit, allHeaders, ticked, headAt}
+use Rattle.audit_slots.specs.Leads.{entriesOwn, framesLead}
 use Rattle.audit_words.specs.Words.{pagesHold}
-
--- ---- stored counts
-
--- the tags of the regions whose outside pointers stand in words of page j
-unfoldable pub wordTags : Kinds → List ℕ → List ℕ → List ℕ → ℕ → List ℕ
-wordTags k heap owners taken j =
-    let t = getD owners j 0 in
-    pick (eqb t 0) [] (outOf owners t (freeWordsTo k heap j (takenIn taken j)))
-
--- what has to be in the stored counts: words marked 1, and slots of the lowest m frames
-unfoldable pub countedTags : Kinds → List ℕ → ℕ → List ℕ → List ℕ → ℕ → List ℕ → List ℕ → List ℕ
-countedTags k heap made owners taken counted widths slots = joined (wordTags k heap owners taken) (upTo (pageCountIn made)) ++ joined (targetsIn widths slots owners) (upTo counted)
-
--- entry i is not in use, or its count is 0; so of all entries
-unfoldable pub isZero : List ℕ → List ℕ → ℕ → Bool
-isZero names cs i = eqb (getD names i 0) 0 || eqb (getD cs i 0) 0
-
-unfoldable pub allZero : List ℕ → List ℕ → Bool
-allZero names cs = every (isZero names cs) (upTo 64)
-
--- nothing stays in the stored counts once all that has to be there has left them, one pointer after the other
-unfoldable pub countsFit : List ℕ → List ℕ → Kinds → List ℕ → ℕ → List ℕ → List ℕ → ℕ → List ℕ → List ℕ → Bool
-countsFit names cs k heap made owners taken counted widths slots = allZero names (leavings cs (countedTags k heap made owners taken counted widths slots))
-
--- ---- all tests
+use Rattle.audit_counts.specs.Counts.{countsFit}
 
 -- those of the heap; headers are ticked in the list `heads`
 unfoldable pub heapFits : List ℕ → ℕ → List ℕ → List ℕ → List ℕ → List ℕ → List ℕ → List ℕ → List ℕ → ℕ → List ℕ → List ℕ → ℕ → List ℕ → List ℕ → Bool

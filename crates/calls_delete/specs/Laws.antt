@@ -1,3 +1,3 @@
--- Laws of the definitions of Delete, proved.
+-- A region's pages given up, and delete computed.
 pub mod Given
 pub mod Cases

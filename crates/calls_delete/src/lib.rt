@@ -1,89 +1,15 @@
-// The call delete: whether the region may go, its pages and their pointers, the frames that are counted from then on.
+// The call delete: the region's pages with their pointers, and the call itself.
 use state::Done;
 use state::State;
 ghost use mathlib.Core.Path.{_≡_};
 ghost use mathlib.Core.List.{[]};
-ghost use lib.ListN.{length, getD};
+ghost use lib.ListN.{length};
 ghost use Rattle.model.specs.Model.{delete};
-ghost use Rattle.model.specs.Calls.{reason};
 ghost use Rattle.kinds.specs.Kinds.{kindsWith};
-ghost use Rattle.regions.specs.Regions.{subregionsIn};
-ghost use Rattle.regions.specs.Laws.Steps.{enterings, leavings};
+ghost use Rattle.regions.specs.Laws.Steps.{leavings};
 ghost use Rattle.pages.specs.Pages.{pageCountIn, pagesWith, pagesIn, ownersTo};
 ghost use Rattle.objects.specs.Objects.{freeWordsOf, outOf};
-ghost use Rattle.outcomes.specs.Store.{ledIn};
-ghost use Rattle.outcomes.specs.Outcome.{Outcome, answerOf, store, newlyIn};
-ghost use Rattle.checks.specs.Checks.{orElse, regionTests};
-ghost use Rattle.calls_delete.specs.Delete.{deleteTests};
-
-// Whether some slot of an uncounted frame leads into the region with that tag. The first that does ends the look.
-fn look<'a>(
-    standing: u32,
-    counted: u32,
-    widths: &'a [u8],
-    slots: &'a [u32],
-    owners: &'a [u8],
-    tag: u32,
-) -> bool
-    ensures { λ r. ⌜ r ≡ ledIn standing counted (now (widths .entry)) (now (slots .entry)) (now (owners .entry)) tag ⌝ }
-{
-    let n = frames::frame_count(standing);
-    let mut found = false;
-    let mut i = counted;
-    'look: while i < n {
-        let w = frames::width_at(widths, i);
-        let mut k: u32 = 0;
-        while k < w {
-            if pages::owner_of(owners, frames::slot_at(slots, i, k)) == tag {
-                found = true;
-                break 'look;
-            }
-            k += 1;
-        }
-        i += 1;
-    }
-    found
-}
-
-// Why the region of that name, with entry e and that tag, is not deleted; 0 if it may go.
-fn delete_refusal<'a>(
-    made: u32,
-    words: usize,
-    region: u32,
-    e: u32,
-    tag: u32,
-    names: &'a [u32],
-    parents: &'a [u8],
-    counts: &'a [u32],
-    standing: u32,
-    counted: u32,
-    widths: &'a [u8],
-    slots: &'a [u32],
-    owners: &'a [u8],
-) -> u32
-    ensures { λ r. ⌜ r ≡ orElse (reason (regionTests made words e)) (reason (deleteTests region (subregionsIn (now (names .entry)) (now (parents .entry)) tag) (getD (now (counts .entry)) e 0) (ledIn standing counted (now (widths .entry)) (now (slots .entry)) (now (owners .entry)) tag))) ⌝ }
-{
-    let g = checks::region_refusal(made, words, e);
-    if g != 0 {
-        return g;
-    }
-    if region == 1 {
-        return 3;
-    }
-    let below = regions::subregions_of(names, parents, tag);
-    let stored = regions::count_at(counts, e);
-    if below != 0 {
-        return 18;
-    }
-    if stored != 0 {
-        return 19;
-    }
-    if look(standing, counted, widths, slots, owners, tag) {
-        19
-    } else {
-        0
-    }
-}
+ghost use Rattle.outcomes.specs.Outcome.{Outcome, answerOf, store};
 
 // Page by page of the region with that tag: its words marked 1 leave the counts, then the page is free. Gives how many pages were given up.
 fn give_pages<'a>(
@@ -115,25 +41,6 @@ fn give_pages<'a>(
     number
 }
 
-// The counts with the pointers of the frames that are counted once m is raised.
-fn enter_frames<'a>(
-    standing: u32,
-    counted: u32,
-    widths: &'a [u8],
-    slots: &'a [u32],
-    owners: &'a [u8],
-    counts: &mut [u32],
-)
-    ensures { λ _. ⌜ now (counts .exit) ≡ enterings (now (counts .entry)) (newlyIn standing counted (now (widths .entry)) (now (slots .entry)) (now (owners .entry))) ⌝ }
-{
-    let n = cells::less(frames::frame_count(standing));
-    let mut i = counted;
-    while i < n {
-        checks::enter_frame(widths, slots, owners, counts, i);
-        i += 1;
-    }
-}
-
 // Document 01's call 23: the region goes, with its objects and pages.
 pub fn delete(s: State, heap: &[u32], region: u32) -> Done
     ensures { λ r. ⌜ Outcome (delete region) (store s (now (heap .entry))) (answerOf (r .reply) []) (store (r .state) (now (heap .entry))) ⌝ }
@@ -143,7 +50,7 @@ pub fn delete(s: State, heap: &[u32], region: u32) -> Done
     let tag = e + 1;
     let n = t.frames.standing;
     let m = t.frames.counted;
-    let g = delete_refusal(
+    let g = delete_parts::delete_refusal(
         t.pages.made,
         heap.len(),
         region,
@@ -178,7 +85,7 @@ pub fn delete(s: State, heap: &[u32], region: u32) -> Done
         &mut c,
         tag,
     );
-    enter_frames(
+    delete_parts::enter_frames(
         n,
         m,
         &t.frames.widths,

@@ -1,2 +1,2 @@
--- The calls that make, computed.
+-- The calls that make regions, computed.
 pub mod Cases

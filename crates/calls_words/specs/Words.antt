@@ -1,26 +1,17 @@
--- The tests that calls on words run after those of their slots, in document 01's order, and the counts that a set pointer changes, over the numbers and lists that
--- they read. An object is given as the part of the heap that begins at its header.
+-- The tests that the calls on data run after those of their slots, in document 01's order, over the numbers and lists that they read.
+-- An object is given as the part of the heap that begins at its header.
 -- Assumes nothing.
-use mathlib.Core.Bool.{Bool, not, _&&_}
+use mathlib.Core.Bool.{not}
 use mathlib.Core.List.{List, [], _∷_}
 use Prim.Native.Nat.{ℕ}
-use lib.Dec.{eqb, leb}
-use Rattle.lists.specs.Lists.{pick, every, upTo}
+use lib.Dec.{eqb}
+use Rattle.lists.specs.Lists.{every, upTo}
 use Rattle.model.specs.Calls.{reason, _yields_}
-use Rattle.kinds.specs.Kinds.{sizeIn, markIn}
-use Rattle.pages.specs.Pages.{ownerIn}
-use Rattle.objects.specs.Parts.{headerIn, wordIn}
-use Rattle.outcomes.specs.Store.{breaksIn}
-use Rattle.checks.specs.Checks.{orElse, topTests}
+use Rattle.kinds.specs.Kinds.{markIn}
+use Rattle.objects.specs.Parts.{headerIn}
+use Rattle.checks.specs.Checks.{orElse, topTests, wordTests}
 
--- word w of the object that v leads to
-unfoldable pub wordTests : ℕ → List ℕ → List ℕ → ℕ → ℕ → List (Bool × ℕ)
-wordTests declared sizes object v w = eqb v 0 yields 14 ∷ leb (sizeIn declared sizes (headerIn object)) w yields 15 ∷ []
-
--- why it is no pointer word, and no data word; 0 where it is
-abbrev pub pointerRefusal : ℕ → List ℕ → List ℕ → List ℕ → ℕ → ℕ → ℕ
-pointerRefusal declared sizes marks object v w = orElse (reason (wordTests declared sizes object v w)) (reason (eqb (markIn marks (headerIn object) w) 0 yields 16 ∷ []))
-
+-- why word w of the object that v leads to is no data word; 0 where it is
 abbrev pub dataRefusal : ℕ → List ℕ → List ℕ → List ℕ → ℕ → ℕ → ℕ
 dataRefusal declared sizes marks object v w = orElse (reason (wordTests declared sizes object v w)) (reason (not (eqb (markIn marks (headerIn object) w) 0) yields 16 ∷ []))
 
@@ -28,20 +19,3 @@ dataRefusal declared sizes marks object v w = orElse (reason (wordTests declared
 abbrev pub viewRefusal : ℕ → ℕ → ℕ → List ℕ → List ℕ → ℕ → ℕ → ℕ → ℕ → ℕ
 viewRefusal made n standing widths marks kind size v s =
     orElse (reason (topTests made n standing widths s s)) (reason (eqb v 0 yields 14 ∷ not (every (λ w. eqb (markIn marks kind w) 0) (upTo size)) yields 16 ∷ []))
-
--- why word w of the object that v leads to cannot get x; 0 where it can
-abbrev pub setRefusal : ℕ → List ℕ → List ℕ → List ℕ → List ℕ → List ℕ → List ℕ → ℕ → ℕ → ℕ → ℕ
-setRefusal declared sizes marks names parents owners object v w x =
-    orElse (pointerRefusal declared sizes marks object v w) (reason (breaksIn names parents (markIn marks (headerIn object) w) (ownerIn owners v) x (ownerIn owners x) yields 17 ∷ []))
-
--- the tag of the region whose count has a pointer into the region with tag t, held by a word marked k of an object of the region with tag h: 0 for none
--- (document 01, The store, on outside pointers)
-unfoldable pub countedTag : ℕ → ℕ → ℕ → ℕ
-countedTag k h t = pick (eqb k 1 && not (eqb t h)) t 0
-
--- for word w of the object that v leads to: the one that what it holds is counted in, and the one that x will be
-abbrev pub tagLeft : List ℕ → List ℕ → List ℕ → ℕ → ℕ → ℕ
-tagLeft marks owners object v w = countedTag (markIn marks (headerIn object) w) (ownerIn owners v) (ownerIn owners (wordIn object w))
-
-abbrev pub tagEntered : List ℕ → List ℕ → List ℕ → ℕ → ℕ → ℕ → ℕ
-tagEntered marks owners object v w x = countedTag (markIn marks (headerIn object) w) (ownerIn owners v) (ownerIn owners x)

@@ -1,53 +1,13 @@
-// The calls on an object's words: load, set pointer, put, get, view.
-use state::Done;
+// The calls on an object's data: put, get, view.
 use state::Reply;
 use state::State;
 ghost use mathlib.Core.Path.{_≡_};
 ghost use mathlib.Core.List.{[]};
-ghost use Prim.Native.Nat.{_+_};
-ghost use lib.ListN.{set};
-ghost use Rattle.model.specs.Model.{load, setPointer, put, get, view};
-ghost use Rattle.model.specs.Calls.{reason};
-ghost use Rattle.regions.specs.Laws.Steps.{entering, leaving};
-ghost use Rattle.outcomes.specs.Store.{breaksIn};
+ghost use Rattle.model.specs.Model.{put, get, view};
 ghost use Rattle.outcomes.specs.Outcome.{Outcome, answerOf, viewAnswer, store, refusal};
-ghost use Rattle.calls_words.specs.Words.{wordTests, pointerRefusal, dataRefusal, viewRefusal, setRefusal, countedTag, tagLeft, tagEntered};
+ghost use Rattle.calls_words.specs.Words.{dataRefusal, viewRefusal};
 
-// 14 and 15 for word w of the object that v leads to.
-fn word_refusal(declared: u32, sizes: &[u8], object: &[u32], v: u32, w: u32) -> u32
-    ensures { λ r. ⌜ r ≡ reason (wordTests declared (now (sizes .entry)) (now (object .entry)) v w) ⌝ }
-{
-    if v == 0 {
-        return 14;
-    }
-    if objects::word_count(declared, sizes, object) <= w {
-        return 15;
-    }
-    0
-}
-
-// The same, and 16 unless the word is a pointer.
-fn pointer_refusal<'a>(
-    declared: u32,
-    sizes: &'a [u8],
-    marks: &'a [u8],
-    object: &[u32],
-    v: u32,
-    w: u32,
-) -> u32
-    ensures { λ r. ⌜ r ≡ pointerRefusal declared (now (sizes .entry)) (now (marks .entry)) (now (object .entry)) v w ⌝ }
-{
-    let g = word_refusal(declared, sizes, object, v, w);
-    if g != 0 {
-        return g;
-    }
-    if objects::mark_of(marks, object, w) == 0 {
-        return 16;
-    }
-    0
-}
-
-// The same, and 16 unless the word is data.
+// 14 and 15 for word w of the object that v leads to, and 16 unless the word is data.
 fn data_refusal<'a>(
     declared: u32,
     sizes: &'a [u8],
@@ -58,7 +18,7 @@ fn data_refusal<'a>(
 ) -> u32
     ensures { λ r. ⌜ r ≡ dataRefusal declared (now (sizes .entry)) (now (marks .entry)) (now (object .entry)) v w ⌝ }
 {
-    let g = word_refusal(declared, sizes, object, v, w);
+    let g = checks::word_refusal(declared, sizes, object, v, w);
     if g != 0 {
         return g;
     }
@@ -66,47 +26,6 @@ fn data_refusal<'a>(
         return 16;
     }
     0
-}
-
-// Document 01's call 13: slot `to` gets the pointer in a word.
-pub fn load(s: State, heap: &[u32], slot: u32, w: u32, to: u32) -> Done
-    ensures { λ r. ⌜ Outcome (load slot w to) (store s (now (heap .entry))) (answerOf (r .reply) []) (store (r .state) (now (heap .entry))) ⌝ }
-{
-    let mut t = s;
-    let n = t.frames.standing;
-    let g = checks::top_refusal(t.pages.made, heap.len(), n, &t.frames.widths, slot, to);
-    if g != 0 {
-        return Done {
-            state: t,
-            reply: checks::refused(g),
-        };
-    }
-    let v = checks::top_slot(n, &t.frames.slots, slot);
-    let object = objects::object_of(heap, v);
-    let h = pointer_refusal(
-        t.kinds.declared,
-        &t.kinds.sizes,
-        &t.kinds.marks,
-        object,
-        v,
-        w,
-    );
-    if h != 0 {
-        return Done {
-            state: t,
-            reply: checks::refused(h),
-        };
-    }
-    frames::put_slot(
-        &mut t.frames.slots,
-        frames::top(n),
-        to,
-        objects::word_at(object, w),
-    );
-    Done {
-        state: t,
-        reply: checks::gives(0, 0, 0, 0),
-    }
 }
 
 // Document 01's call 15: a data word gets the value. The state stays as it is.
@@ -125,7 +44,7 @@ pub fn put(s: State, heap: &mut [u32], slot: u32, w: u32, value: u32) -> Reply
     if h != 0 {
         return checks::refused(h);
     }
-    write(heap, v, w, value);
+    objects::write(heap, v, w, value);
     checks::gives(0, 0, 0, 0)
 }
 
@@ -223,148 +142,4 @@ pub fn view<'a>(s: State, heap: &'a [u32], slot: u32) -> &'a [u32]
         return &heap[0..0];
     }
     cells::part(heap, v as usize, size as usize)
-}
-
-// Whether a word marked m of an object of the region with tag h may not get x, which leads into the region with tag `to`.
-fn breaks<'a>(names: &'a [u32], parents: &'a [u8], m: u32, h: u32, x: u32, to: u32) -> bool
-    ensures { λ r. ⌜ r ≡ breaksIn (now (names .entry)) (now (parents .entry)) m h x to ⌝ }
-{
-    if x == 0 {
-        return false;
-    }
-    let up = regions::parent_at(parents, cells::less(h));
-    if kinds::allows(
-        m,
-        regions::name_of(names, to),
-        regions::name_of(names, h),
-        regions::name_of(names, up),
-    ) {
-        return false;
-    }
-    true
-}
-
-// 14, 15, 16 and 17 for the pointer x in word w of the object that v leads to.
-fn set_refusal<'a>(
-    declared: u32,
-    sizes: &'a [u8],
-    marks: &'a [u8],
-    names: &'a [u32],
-    parents: &'a [u8],
-    owners: &'a [u8],
-    object: &[u32],
-    v: u32,
-    w: u32,
-    x: u32,
-) -> u32
-    ensures { λ r. ⌜ r ≡ setRefusal declared (now (sizes .entry)) (now (marks .entry)) (now (names .entry)) (now (parents .entry)) (now (owners .entry)) (now (object .entry)) v w x ⌝ }
-{
-    let g = pointer_refusal(declared, sizes, marks, object, v, w);
-    if g != 0 {
-        return g;
-    }
-    let m = objects::mark_of(marks, object, w);
-    if breaks(
-        names,
-        parents,
-        m,
-        pages::owner_of(owners, v),
-        x,
-        pages::owner_of(owners, x),
-    ) {
-        return 17;
-    }
-    0
-}
-
-// The region whose count has a pointer into the region with tag t, held by a word marked k of an object of the region with tag h: 0 for none.
-fn counted_tag(k: u32, h: u32, t: u32) -> u32
-    ensures { λ r. ⌜ r ≡ countedTag k h t ⌝ }
-{
-    if k != 1 {
-        return 0;
-    }
-    if t == h {
-        return 0;
-    }
-    t
-}
-
-// The tags of the regions whose counts a pointer leaves and enters, 0 for none.
-struct Tags {
-    leave: u32,
-    enter: u32,
-}
-
-// Those of word w of the object that v leads to, when it gets x.
-fn tags_of<'a>(marks: &'a [u8], owners: &'a [u8], object: &[u32], v: u32, w: u32, x: u32) -> Tags
-    ensures { λ r. ⌜ (r .leave ≡ tagLeft (now (marks .entry)) (now (owners .entry)) (now (object .entry)) v w) × (r .enter ≡ tagEntered (now (marks .entry)) (now (owners .entry)) (now (object .entry)) v w x) ⌝ }
-{
-    let m = objects::mark_of(marks, object, w);
-    let own = pages::owner_of(owners, v);
-    let old = pages::owner_of(owners, objects::word_at(object, w));
-    let new = pages::owner_of(owners, x);
-    Tags {
-        leave: counted_tag(m, own, old),
-        enter: counted_tag(m, own, new),
-    }
-}
-
-// The counts of a set pointer.
-fn move_counts(counts: &mut [u32; 64], leave: u32, enter: u32)
-    ensures { λ _. ⌜ now (counts .exit) ≡ entering (leaving (now (counts .entry)) leave) enter ⌝ }
-{
-    regions::leave(counts, leave);
-    regions::enter(counts, enter);
-}
-
-// Word w of the object that v leads to gets x.
-fn write(heap: &mut [u32], v: u32, w: u32, x: u32)
-    ensures { λ _. ⌜ now (heap .exit) ≡ set (now (heap .entry)) (v + w) x ⌝ }
-{
-    cells::store(heap, (v as usize) + (w as usize), x);
-}
-
-// Document 01's call 14: a pointer word gets what slot `value` holds, and the counts follow.
-pub fn set_pointer(s: State, heap: &mut [u32], slot: u32, w: u32, value: u32) -> Done
-    ensures { λ r. ⌜ Outcome (setPointer slot w value) (store s (now (heap .entry))) (answerOf (r .reply) []) (store (r .state) (now (heap .exit))) ⌝ }
-{
-    let mut t = s;
-    let n = t.frames.standing;
-    let g = checks::top_refusal(t.pages.made, heap.len(), n, &t.frames.widths, slot, value);
-    if g != 0 {
-        return Done {
-            state: t,
-            reply: checks::refused(g),
-        };
-    }
-    let v = checks::top_slot(n, &t.frames.slots, slot);
-    let x = checks::top_slot(n, &t.frames.slots, value);
-    let object = objects::object_of(heap, v);
-    let h = set_refusal(
-        t.kinds.declared,
-        &t.kinds.sizes,
-        &t.kinds.marks,
-        &t.regions.names,
-        &t.regions.parents,
-        &t.pages.owners,
-        object,
-        v,
-        w,
-        x,
-    );
-    if h != 0 {
-        return Done {
-            state: t,
-            reply: checks::refused(h),
-        };
-    }
-    let m = tags_of(&t.kinds.marks, &t.pages.owners, object, v, w, x);
-    regions::counts_shaped(t.regions);
-    move_counts(&mut t.regions.counts, m.leave, m.enter);
-    write(heap, v, w, x);
-    Done {
-        state: t,
-        reply: checks::gives(0, 0, 0, 0),
-    }
 }

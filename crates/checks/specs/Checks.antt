@@ -7,7 +7,9 @@ use lib.Dec.{eqb, ltb, leb}
 use Rattle.lists.specs.Lists.{pick}
 use Rattle.model.specs.Calls.{_yields_}
 use Rattle.frames.specs.Frames.{topIn, widthIn}
+use Rattle.kinds.specs.Kinds.{sizeIn}
 use Rattle.pages.specs.Pages.{wrongLengthIn}
+use Rattle.objects.specs.Parts.{headerIn}
 
 -- the first number, or the second where the first accepts
 abbrev pub orElse : ℕ → ℕ → ℕ
@@ -23,6 +25,10 @@ topTests made n standing widths s t =
 unfoldable pub beneathTests : ℕ → ℕ → ℕ → List ℕ → ℕ → ℕ → List (Bool × ℕ)
 beneathTests made n standing widths s b =
     wrongLengthIn made n yields 21 ∷ ltb standing 2 yields 6 ∷ (leb (widthIn widths (topIn standing)) s || leb (widthIn widths (topIn standing - 1)) b) yields 9 ∷ []
+
+-- word w of the object that v leads to, given as the part of the heap that begins at its header
+unfoldable pub wordTests : ℕ → List ℕ → List ℕ → ℕ → ℕ → List (Bool × ℕ)
+wordTests declared sizes object v w = eqb v 0 yields 14 ∷ leb (sizeIn declared sizes (headerIn object)) w yields 15 ∷ []
 
 -- a region by its entry e, 64 where the name is no live region's
 unfoldable pub regionTests : ℕ → ℕ → ℕ → List (Bool × ℕ)

@@ -9,7 +9,7 @@ ghost use Rattle.model.specs.Model.{gives, refusedBy};
 ghost use Rattle.model.specs.Calls.{reason};
 ghost use Rattle.outcomes.specs.Store.{targetsIn};
 ghost use Rattle.outcomes.specs.Outcome.{answerOf};
-ghost use Rattle.checks.specs.Checks.{topTests, beneathTests, regionTests};
+ghost use Rattle.checks.specs.Checks.{topTests, beneathTests, wordTests, regionTests};
 
 pub fn refused(n: u32) -> Reply
     ensures { λ r. ⌜ answerOf r [] ≡ refusedBy n ⌝ }
@@ -86,6 +86,19 @@ pub fn beneath_slot(standing: u32, slots: &[u32], s: u32) -> u32
     ensures { λ r. ⌜ r ≡ slotIn (now (slots .entry)) (topIn standing - 1) s ⌝ }
 {
     frames::slot_at(slots, cells::less(frames::top(standing)), s)
+}
+
+// 14 and 15 for word w of the object that v leads to.
+pub fn word_refusal(declared: u32, sizes: &[u8], object: &[u32], v: u32, w: u32) -> u32
+    ensures { λ r. ⌜ r ≡ reason (wordTests declared (now (sizes .entry)) (now (object .entry)) v w) ⌝ }
+{
+    if v == 0 {
+        return 14;
+    }
+    if objects::word_count(declared, sizes, object) <= w {
+        return 15;
+    }
+    0
 }
 
 // 21, and 2 unless e is an entry, as it is for the name of a live region.

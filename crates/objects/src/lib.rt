@@ -1,6 +1,8 @@
 // Objects in the heap that a call is given. Who reads an object's kind, mark or words gets the part of the heap that begins at its header.
 ghost use mathlib.Core.Path.{_≡_};
 ghost use mathlib.Core.List.{[], _∷_};
+ghost use Prim.Native.Nat.{_+_};
+ghost use lib.ListN.{set};
 ghost use Rattle.kinds.specs.Kinds.{kindsWith, sizeIn, markIn};
 ghost use Rattle.regions.specs.Laws.Steps.{leavings};
 ghost use Rattle.objects.specs.Objects.{freeWordsTo, outOf};
@@ -46,6 +48,13 @@ pub fn word_at(object: &[u32], w: u32) -> u32
     ensures { λ r. ⌜ r ≡ wordIn (now (object .entry)) w ⌝ }
 {
     cells::word(object, 1 + (w as usize))
+}
+
+// Word w of the object that v leads to gets x.
+pub fn write(heap: &mut [u32], v: u32, w: u32, x: u32)
+    ensures { λ _. ⌜ now (heap .exit) ≡ set (now (heap .entry)) (v + w) x ⌝ }
+{
+    cells::store(heap, (v as usize) + (w as usize), x);
 }
 
 // How many words the object has; 0 where there is none, or it takes more than n words with its header.

@@ -1,9 +1,11 @@
 // The region store: what a user imports. Every call of document 01 under its name, and `call`, which takes the call's number.
+pub use calls_allocate::allocate;
 pub use calls_audit::audit;
 pub use calls_delete::delete;
-pub use calls_regions::allocate;
-pub use calls_regions::declare;
-pub use calls_regions::make;
+pub use calls_make::declare;
+pub use calls_make::make;
+pub use calls_pointers::load;
+pub use calls_pointers::set_pointer;
 pub use calls_regions::new_region;
 pub use calls_regions::subregion;
 pub use calls_report::report;
@@ -18,9 +20,7 @@ pub use calls_stack::drop;
 pub use calls_stack::hand_back;
 pub use calls_stack::push;
 pub use calls_words::get;
-pub use calls_words::load;
 pub use calls_words::put;
-pub use calls_words::set_pointer;
 pub use calls_words::view;
 pub use calls_words::view_refusal;
 pub use state::Done;

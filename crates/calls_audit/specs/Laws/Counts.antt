@@ -32,9 +32,9 @@ use Rattle.outcomes.specs.Laws.Values.{page-most}
 use Rattle.outcomes.specs.Laws.Begin.{every-entry, entry-is}
 use Rattle.outcomes.specs.Laws.Pointers.{Ordered, Known, wordsInto, valueAt, frames-length, slots-sum, slots-into, words-into, slotsInto}
 use Rattle.audit_state.specs.Fits.{widthsFit}
-use Rattle.audit_heap.specs.Heap.{known, frameLeads, framesLead}
+use Rattle.audit_slots.specs.Leads.{known, frameLeads, framesLead}
 use Rattle.audit_words.specs.Words.{wordHolds, objectHolds, objectsHold, pageHolds, pagesHold}
-use Rattle.calls_audit.specs.Passes.{wordTags, countedTags, isZero, allZero, countsFit}
+use Rattle.audit_counts.specs.Counts.{wordTags, countedTags, isZero, allZero, countsFit}
 use Rattle.calls_audit.specs.Laws.Heap.{stands, slotsPass, wordPasses, objectPasses, pageWordsPass, wordsPass, known-same}
 
 eqb-iff : (a b c d : ℕ) → (a ≡ b → c ≡ d) → (c ≡ d → a ≡ b) → eqb a b ≡ eqb c d

@@ -14,8 +14,9 @@ use Rattle.outcomes.specs.Store.{Store, regions}
 use Rattle.outcomes.specs.Sound.{Sound, newestOwn, oldestOwn}
 use Rattle.outcomes.specs.Laws.Begin.{every-entry, used-below}
 use Rattle.outcomes.specs.Laws.Pointers.{Ordered}
-use Rattle.audit_state.specs.Fits.{namesakes, stateFits}
-use Rattle.audit_heap.specs.Heap.{entryOwns, entriesOwn}
+use Rattle.audit_regions.specs.Filed.{namesakes}
+use Rattle.audit_state.specs.Fits.{stateFits}
+use Rattle.audit_slots.specs.Leads.{entryOwns, entriesOwn}
 use Rattle.calls_audit.specs.Passes.{heapFits, passesIn, passes}
 use Rattle.calls_audit.specs.Laws.State.{folded-true, each-entry, entry-each, widths-same, state-passes, numbers, sizes, marks, widths, region, levels, distinct, past, one, parents}
 use Rattle.calls_audit.specs.Laws.Heap.{pagesPass, newestPasses, oldestPasses, entriesPass, slotsPass, wordsPass, pages-pass, owned, held, filling, newest-same, oldest-same, slots-same, words-same}

@@ -29,7 +29,8 @@ use Rattle.outcomes.specs.History.{Object, begin, listedHeld, pointersOf, leads
 use Rattle.outcomes.specs.Sound.{Sound, filled, newestOwn, oldestOwn}
 use Rattle.outcomes.specs.Laws.Begin.{holderOf, headersOf, headers, objectAt, holding, begin-objects, page-of, leads-among, pages-held, pages-filled, home-none, parent-is}
 use Rattle.outcomes.specs.Laws.Pointers.{Ordered, valueAt, every-slot, every-pointer, home-name, home-tag}
-use Rattle.audit_heap.specs.Heap.{headersIn, filledTo, pageFits, pagesFit, headersHeld, allHeaders, ticked, headAt, newestFits, oldestFits, entriesOwn, known, frameLeads, framesLead}
+use Rattle.audit_heap.specs.Heap.{headersIn, filledTo, pageFits, pagesFit, headersHeld, allHeaders, ticked, headAt}
+use Rattle.audit_slots.specs.Leads.{newestFits, oldestFits, entriesOwn, known, frameLeads, framesLead}
 use Rattle.audit_heap.specs.Laws.Ticks.{blank-ticked}
 use Rattle.audit_words.specs.Words.{wordHolds, objectHolds, objectsHold, pageHolds, pagesHold}
 

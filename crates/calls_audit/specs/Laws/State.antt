@@ -21,7 +21,8 @@ use Rattle.outcomes.specs.Store.{Store, frames, kinds, regions, pages}
 use Rattle.outcomes.specs.History.{entries, listedKinds, listedFrames}
 use Rattle.outcomes.specs.Sound.{Sound, within, placed}
 use Rattle.outcomes.specs.Laws.Begin.{every-entry, name-times, one-lives}
-use Rattle.audit_state.specs.Fits.{numbersFit, marksFit, kindFits, kindsFit, widthsFit, placedAt, namesakes, regionFits, entryFits, regionsFit, stateFitsIn, stateFits}
+use Rattle.audit_regions.specs.Filed.{placedAt, namesakes, regionFits, entryFits, regionsFit}
+use Rattle.audit_state.specs.Fits.{numbersFit, marksFit, kindFits, kindsFit, widthsFit, stateFitsIn, stateFits}
 
 -- tests joined by `&&`, from the left
 abbrev pub folded : Bool → List Bool → Bool

@@ -1,11 +1,9 @@
-use mathlib.Core.Path.{refl, sym, _∙_}
+use mathlib.Core.Path.{refl, ap, _∙_}
 use borrow.Author.Needs.{needs}
-use Rattle.frames.specs.Frames.{slotAt, topFrame}
-use Rattle.outcomes.specs.Outcome.{Accepted, writeWord}
-use Rattle.outcomes.specs.Store.{slot}
-use Rattle.outcomes.specs.Laws.Steps.{by-refusal, by-effect}
-use Rattle.checks.specs.Laws.Tests.{else-first, else-next}
-use Rattle.calls_words.proofs.Laws.{get-tests, put-tests}
+use Rattle.outcomes.specs.Outcome.{store, writeWord}
+use Rattle.outcomes.specs.Laws.Steps.{by-refusal}
+use Rattle.checks.specs.Laws.Tests.{else-first}
+use Rattle.calls_words.proofs.Laws.{get-tests, put-tests, get-second, put-effect}
 use Rattle.calls_words.proofs.put.Statement.{statement}
 use Rattle.calls_words.proofs.put.Tie as tie
 
@@ -18,18 +16,17 @@ returns-2 c =
     let o = d .before .before .before .before .before .before in
     let v = o .before .before .before in
     let t = v .before .before .before .before in
-    by-refusal _ _ _ _ _ (put-tests _ _ _ _ ∙ get-tests _ _ _ ∙ else-next _ _ _ (t .before .top-refusal .ensures) (t .if1 .left) ∙ sym (d .data-refusal .ensures ∙ rw (o .object-of .ensures, v .top-slot .ensures))) (c .before .if2 .taken) (c .refused2 .ensures) refl
+    by-refusal _ _ _ _ _ (put-tests _ _ _ _ ∙ get-second _ _ _ _ (v .top-slot .ensures) (o .object-of .ensures) _ _ _ (t .before .top-refusal .ensures) (t .if1 .left) (d .data-refusal .ensures)) (c .before .if2 .taken) (c .refused2 .ensures) refl
 
 returns-3 : tie.Need-returns-3
-unfolding Accepted writeWord slot slotAt topFrame
+unfolding writeWord
 returns-3 c =
     let h = c .before .before .before in
     let d = h .before .before .before in
     let o = d .before .before .before .before .before .before in
     let v = o .before .before .before in
     let t = v .before .before .before .before in
-    by-effect _ _ _ _ (put-tests _ _ _ _ ∙ get-tests _ _ _ ∙ else-next _ _ _ (t .before .top-refusal .ensures) (t .if1 .left) ∙ sym (d .data-refusal .ensures ∙ rw (o .object-of .ensures, v .top-slot .ensures)) ∙ h .before .before .if2 .left)
-    (c .gives .ensures, rw (h .write .ensures, v .top-slot .ensures))
+    put-effect _ _ _ _ (v .top-slot .ensures) (o .object-of .ensures) _ _ _ (t .before .top-refusal .ensures) (t .if1 .left) (d .data-refusal .ensures) _ _ _ (h .before .before .if2 .left) (c .gives .ensures) (ap (store _) (h .write .ensures))
 
 pub put-spec : {M : Type 1} → statement M
 put-spec = tie.close (tie.spec (λ c κs. search needs) (λ c κs. search needs) returns (λ c κs. search needs) (λ c κs. search needs) (λ c κs. search needs) (λ c κs. search needs) (λ c. search needs) returns-2 (λ c κs. search needs) (λ c κs. search needs) (λ c. search needs) returns-3)

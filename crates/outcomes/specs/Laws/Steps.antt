@@ -1,4 +1,4 @@
--- Ways to an outcome, for the proofs of the calls: a refused call and an accepted one.
+-- Ways to an outcome, for the proofs of the calls: a refused call and an accepted one, and a store by its parts.
 -- Assumes nothing.
 use mathlib.Core.Path.{_≡_, refl, subst⁻¹}
 use mathlib.Core.Bool.{Bool, true, false}
@@ -11,8 +11,8 @@ use Rattle.lists.specs.Lists.{pick, every}
 use Rattle.lists.specs.Laws.Tests.{both}
 use Rattle.model.specs.Model.{Answer, Call, refusedBy}
 use Rattle.model.specs.Calls.{reason}
-use Rattle.outcomes.specs.Store.{Store}
-use Rattle.outcomes.specs.Outcome.{Outcome, Accepted, Answered, refusal}
+use Rattle.outcomes.specs.Store.{Store, frames, kinds, regions, pages}
+use Rattle.outcomes.specs.Outcome.{Outcome, Accepted, Answered, store, refusal}
 
 module _ (c : Call) (S : Store) (a : Answer) (T : Store) where
   pub by-refusal : (n : ℕ) → refusal S c ≡ n → (n ≡ 0 → ⊥) → a ≡ refusedBy n → T ≡ S → Outcome c S a T
@@ -23,6 +23,10 @@ module _ (c : Call) (S : Store) (a : Answer) (T : Store) where
   pub by-effect : refusal S c ≡ 0 → Accepted c S a T → Outcome c S a T
   unfolding Outcome
   by-effect e h = subst⁻¹ (λ m. Answered m c S a T) e h
+
+-- a store is its parts
+pub by-parts : (S T : Store) → frames S ≡ frames T → kinds S ≡ kinds T → regions S ≡ regions T → pages S ≡ pages T → S .heap ≡ T .heap → S ≡ T
+by-parts S T f k r p h = λ i. store (record { frames = f i; kinds = k i; regions = r i; pages = p i }) (h i)
 
 -- tests in two parts: the first part decides unless it accepts
 pub reason-append : (xs ys : List (Bool × ℕ)) → every (λ t. ltb 0 (t .1)) xs ≡ true → reason (xs ++ ys) ≡ pick (eqb (reason xs) 0) (reason ys) (reason xs)

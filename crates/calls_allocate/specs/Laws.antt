@@ -1,0 +1,2 @@
+-- Allocate, computed.
+pub mod Cases

@@ -1,0 +1,48 @@
+-- What allocate refuses and leaves, computed. Each case is false of an edit of it that must be refused, which it names.
+-- Assumes nothing.
+use mathlib.Core.Path.{_≡_, refl}
+use mathlib.Core.Bool.{true}
+use mathlib.Core.List.{List, [], _∷_}
+use Prim.Native.Nat.{ℕ}
+use lib.Dec.{eqb}
+use lib.ListN.{replicate}
+use Rattle.lists.specs.Lists.{bit, every}
+use Rattle.model.specs.Model.{allocate}
+use Rattle.frames.specs.Frames.{frameCount, topFrame, widthAt, slotAt, putSlot}
+use Rattle.kinds.specs.Kinds.{kindCount, sizeOf, sizeIn}
+use Rattle.regions.specs.Regions.{nameAt, entryOf, tagOf, isLive, newestAt, oldestAt, unused, withRegion, withPage, entryIn, unusedIn}
+use Rattle.pages.specs.Pages.{pageCount, ownerAt, takenAt, isFree, pagesOf, wrongLength, withTaken, pagesIn, wrongLengthIn}
+use Rattle.outcomes.specs.Store.{Store, regions, pages, slot, size, roomy, roomyIn}
+use Rattle.outcomes.specs.Outcome.{withRegions, withPages, withHeap, badLength, noFrame, lacks, dead, checks, refusal, fillSlot, allocated}
+use Rattle.outcomes.specs.Examples.{small}
+
+-- `small` with a region more, named 8, which has no page yet
+abbrev four : Store
+four = withRegions small (withRegion (regions small) 1 0 1)
+
+-- and with a page more, which is free
+abbrev roomier : Store
+roomier = withHeap (withPages four (record { made = 3; owners = 1 ∷ 3 ∷ 0 ∷ replicate 253 77; taken = 6 ∷ 7 ∷ replicate 254 0 })) (replicate 192 0)
+
+-- `small` with all but two words of page 1 taken
+abbrev tight : Store
+tight = withPages small (record { made = 2; owners = (pages small) .owners; taken = 6 ∷ 62 ∷ replicate 254 0 })
+
+-- what is computed, and what it has to be
+abbrev cases : List (ℕ × ℕ)
+cases =
+    -- no_page_while_one_is_free: region 8 has no page
+    (refusal four (allocate 0 8 1), 13)
+    ∷ (refusal roomier (allocate 0 8 1), 0)
+    -- takes_page_0_free_or_not
+    ∷ (bit (isFree (pages roomier) 0), 0)
+    ∷ (bit (isFree (pages roomier) 2), 1)
+    -- starts_a_word_too_early: page 1 has 7 words taken
+    ∷ (slot (allocated small 0 2 1 1) 0, 72)
+    -- runs_past_its_page: an object of 3 words does not fit 2
+    ∷ (refusal tight (allocate 0 5 1), 13)
+    ∷ []
+
+pub computed : every (λ p. eqb (p .0) (p .1)) cases ≡ true
+unfolding frameCount topFrame widthAt slotAt putSlot kindCount sizeOf nameAt entryOf tagOf isLive newestAt oldestAt unused withRegion withPage pageCount ownerAt takenAt isFree pagesOf wrongLength withTaken slot size roomy badLength noFrame lacks dead checks refusal fillSlot allocated sizeIn entryIn unusedIn pagesIn wrongLengthIn roomyIn
+computed = refl

@@ -1,0 +1,2 @@
+-- Make and declare, computed.
+pub mod Cases

@@ -1,0 +1,126 @@
+-- The tests of load and set pointer are those of the functions that they ask, one group after the other; and what the calls do where these accept.
+-- Assumes nothing.
+use mathlib.Core.Path.{_≡_, refl, sym, ap, ap₂, _∙_}
+use mathlib.Core.Bool.{Bool, true, false, not, _&&_}
+use mathlib.Core.List.{List, [], _∷_}
+use mathlib.Core.Logic.{inl}
+use Prim.Native.Nat.{ℕ, _+_}
+use lib.Dec.{eqb}
+use lib.ListN.{set}
+use Rattle.lists.specs.Lists.{pick}
+use Rattle.lists.specs.Laws.Tests.{by-test}
+use Rattle.model.specs.Model.{Answer, load, setPointer, gives}
+use Rattle.model.specs.Calls.{reason, _yields_}
+use Rattle.frames.specs.Frames.{slotAt, topFrame}
+use Rattle.kinds.specs.Kinds.{markAt, markIn}
+use Rattle.regions.specs.declared.Regions.{Regions}
+use Rattle.regions.specs.Regions.{moved, withCounts, recount, nameOf, parentAt}
+use Rattle.regions.specs.Laws.Steps.{steps, entering, leaving}
+use Rattle.regions.specs.Laws.Counts.{Counts, moved-come-skip, moved-gone-skip}
+use Rattle.regions.specs.Laws.Recount.{enter-leave-recount}
+use Rattle.pages.specs.Pages.{ownerIn, ownerOf}
+use Rattle.objects.specs.Objects.{kindOf, markOf, wordAt}
+use Rattle.objects.specs.Parts.{objectOf, headerIn, wordIn}
+use Rattle.objects.specs.Laws.Words.{object-header}
+use Rattle.outcomes.specs.Store.{Store, kinds, regions, pages, slot, breaks, breaksIn}
+use Rattle.outcomes.specs.Outcome.{Outcome, Accepted, refusal, checks, noWord, isData, withRegions, withHeap, fillSlot, pointed, writeWord, recounted, countedIn}
+use Rattle.outcomes.specs.Laws.Steps.{reason-append, by-effect}
+use Rattle.checks.specs.Checks.{orElse, wordTests}
+use Rattle.checks.specs.Laws.Tests.{top, two-slots, else-next}
+use Rattle.checks.specs.Laws.Words.{held, object, mark, tested, word-read}
+use Rattle.calls_pointers.specs.Pointers.{pointerRefusal, setRefusal, countedTag, tagLeft, tagEntered}
+
+else-else : (a b c : ℕ) → orElse (orElse a b) c ≡ orElse a (orElse b c)
+else-else a b c = by-test (eqb a 0) (λ e. rw e) (λ e. rw (e, e))
+
+module _ (S : Store) (s : ℕ) where
+  pub load-tests : (w t : ℕ) → refusal S (load s w t) ≡ orElse (reason (top S s t)) (pointerRefusal ((kinds S) .declared) ((kinds S) .sizes) ((kinds S) .marks) (object S s) (held S s) w)
+  unfolding refusal checks
+  load-tests w t = two-slots S (eqb (slot S s) 0 yields 14 ∷ noWord S s w yields 15 ∷ isData S s w yields 16 ∷ []) s t ∙ ap (orElse (reason (top S s t))) (tested S s (λ b. b) w)
+
+  set-tests : (w v : ℕ) → refusal S (setPointer s w v) ≡ orElse (refusal S (load s w v)) (reason (breaks S (slot S s) w (slot S v) yields 17 ∷ []))
+  unfolding refusal checks
+  set-tests w v = reason-append (checks S (load s w v)) (breaks S (slot S s) w (slot S v) yields 17 ∷ []) refl
+
+  -- the mark's rule by the parts that it reads
+  breaks-in : (w x : ℕ) → breaks S (held S s) w x ≡ breaksIn ((regions S) .names) ((regions S) .parents) (mark S s w) (ownerIn ((pages S) .owners) (held S s)) x (ownerIn ((pages S) .owners) x)
+  unfolding breaks ownerOf markOf markAt breaksIn nameOf parentAt
+  breaks-in w x = rw (object-header (S .heap) (held S s))
+
+-- set pointer's tests by the parts that they read
+pub set-parts : (S : Store) (s w v : ℕ) → refusal S (setPointer s w v)
+    ≡ orElse (reason (top S s v)) (setRefusal ((kinds S) .declared) ((kinds S) .sizes) ((kinds S) .marks) ((regions S) .names) ((regions S) .parents) ((pages S) .owners) (object S s) (held S s) w (held S v))
+unfolding slot slotAt topFrame
+set-parts S s w v =
+    set-tests S s w v ∙ ap₂ (λ a b. orElse a (reason (b yields 17 ∷ []))) (load-tests S s w v) (breaks-in S s w (held S v))
+    ∙ else-else (reason (top S s v)) (pointerRefusal ((kinds S) .declared) ((kinds S) .sizes) ((kinds S) .marks) (object S s) (held S s) w) _
+
+pub set-read : (declared : ℕ) (sizes marks names parents owners heap : List ℕ) (v w x : ℕ) → setRefusal declared sizes marks names parents owners (objectOf heap v) v w x ≡ 0
+    → wordIn (objectOf heap v) w ≡ wordAt heap v w
+set-read declared sizes marks names parents owners heap v w x e =
+    word-read declared sizes heap v w _ (sym (else-else (reason (wordTests declared sizes (objectOf heap v) v w)) (reason (eqb (markIn marks (headerIn (objectOf heap v)) w) 0 yields 16 ∷ [])) _) ∙ e)
+
+-- leaving one count and then entering another, by the regions that the outcome names
+counted-recount : (g : Regions) (k h a b : ℕ) → recount g (countedTag k h b ∷ []) (countedTag k h a ∷ []) ≡ recount g (pick (eqb k 1 && not (eqb b h)) (b ∷ []) []) (pick (eqb k 1 && not (eqb a h)) (a ∷ []) [])
+unfolding countedTag recount
+counted-recount g k h a b = ap (withCounts g) (go (eqb k 1 && not (eqb b h)) (eqb k 1 && not (eqb a h)))
+  where
+    cs : List ℕ
+    cs = g .counts
+
+    go : (p q : Bool) → moved cs (pick p b 0 ∷ []) (pick q a 0 ∷ []) ≡ moved cs (pick p (b ∷ []) []) (pick q (a ∷ []) [])
+    go true true = refl
+    go true false = moved-gone-skip cs (b ∷ []) [] 0 (inl refl)
+    go false true = moved-come-skip cs [] (a ∷ []) 0 (inl refl)
+    go false false = moved-come-skip cs [] (0 ∷ []) 0 (inl refl) ∙ moved-gone-skip cs [] [] 0 (inl refl)
+
+set-recount : (g : Regions) → Counts (g .counts) → (k h a b : ℕ) → withCounts g (entering (leaving (g .counts) (countedTag k h a)) (countedTag k h b))
+    ≡ recount g (pick (eqb k 1 && not (eqb b h)) (b ∷ []) []) (pick (eqb k 1 && not (eqb a h)) (a ∷ []) [])
+unfolding steps
+set-recount g fits k h a b = enter-leave-recount g fits (countedTag k h b ∷ []) (countedTag k h a ∷ []) ∙ counted-recount g k h a b
+
+module _ (S : Store) (s w : ℕ) where
+  abbrev marks : List ℕ
+  marks = (kinds S) .marks
+
+  abbrev owners : List ℕ
+  owners = (pages S) .owners
+
+  -- what an accepted set pointer leaves: x is what the second slot holds, `out` and `into` are the tags whose counts change
+  set-leaves : (v x out into : ℕ) (cs words : List ℕ) → Counts ((regions S) .counts) → wordIn (objectOf (S .heap) v) w ≡ wordAt (S .heap) v w
+      → out ≡ tagLeft marks owners (objectOf (S .heap) v) v w → into ≡ tagEntered marks owners (objectOf (S .heap) v) v w x
+      → cs ≡ entering (leaving ((regions S) .counts) out) into → words ≡ set (S .heap) (v + w) x
+      → withHeap (withRegions S (withCounts (regions S) cs)) words ≡ pointed S v w x
+  unfolding pointed writeWord recounted countedIn ownerOf markOf markAt
+  set-leaves v x out into cs words fits read a b c d =
+      let m = markIn marks (kindOf (S .heap) v) w in
+      let h = ownerIn owners v in
+      rw (d, c, a, b, read, object-header (S .heap) v, set-recount (regions S) fits m h (ownerIn owners (wordAt (S .heap) v w)) (ownerIn owners x))
+
+  -- v and o are what functions gave: what the slot holds, and the object that it leads to
+  module _ (v : ℕ) (o : List ℕ) (led : v ≡ held S s) (read : o ≡ objectOf (S .heap) v) where
+    -- so are t and g, for the tests of the slots, which accept, and of the word
+    module _ (u t g : ℕ) (first : t ≡ reason (top S s u)) (passed : t ≡ 0) (asked : g ≡ pointerRefusal ((kinds S) .declared) ((kinds S) .sizes) marks o v w) where
+      pub load-second : refusal S (load s w u) ≡ g
+      load-second = load-tests S s w u ∙ else-next (reason (top S s u)) t _ first passed ∙ sym (asked ∙ rw (read, led))
+
+      pub load-effect : (a : Answer) (x : ℕ) (T : Store) → g ≡ 0 → x ≡ wordIn o w → a ≡ gives [] → T ≡ fillSlot S u x → Outcome (load s w u) S a T
+      unfolding Accepted slot slotAt topFrame
+      load-effect a x T z e p h =
+          let q : pointerRefusal ((kinds S) .declared) ((kinds S) .sizes) marks (objectOf (S .heap) v) v w ≡ 0 = rw (← read) (sym asked ∙ z) in
+          by-effect (load s w u) S a T (load-second ∙ z) (p, h ∙ rw (e, read, word-read ((kinds S) .declared) ((kinds S) .sizes) (S .heap) v w _ q, led))
+
+    -- and x, what slot u holds
+    module _ (u x t g : ℕ) (valued : x ≡ held S u) (first : t ≡ reason (top S s u)) (passed : t ≡ 0)
+        (asked : g ≡ setRefusal ((kinds S) .declared) ((kinds S) .sizes) marks ((regions S) .names) ((regions S) .parents) owners o v w x) where
+      pub set-second : refusal S (setPointer s w u) ≡ g
+      set-second = set-parts S s w u ∙ else-next (reason (top S s u)) t _ first passed ∙ sym (asked ∙ rw (read, led, valued))
+
+      pub set-effect : (a : Answer) (out into : ℕ) (cs words : List ℕ) (T : Store) → g ≡ 0 → a ≡ gives [] → Counts ((regions S) .counts)
+          → out ≡ tagLeft marks owners o v w → into ≡ tagEntered marks owners o v w x → cs ≡ entering (leaving ((regions S) .counts) out) into → words ≡ set (S .heap) (v + w) x
+          → T ≡ withHeap (withRegions S (withCounts (regions S) cs)) words → Outcome (setPointer s w u) S a T
+      unfolding Accepted slot slotAt topFrame
+      set-effect a out into cs words T z p fits l e c d h =
+          let r = set-read ((kinds S) .declared) ((kinds S) .sizes) marks ((regions S) .names) ((regions S) .parents) owners (S .heap) v w x (rw (← read) (sym asked ∙ z)) in
+          by-effect (setPointer s w u) S a T (set-second ∙ z)
+          (p, h ∙ set-leaves v x out into cs words fits r (l ∙ rw read) (e ∙ rw read) c d ∙ ap₂ (λ v x. pointed S v w x) led valued)

@@ -1,0 +1,98 @@
+// What delete asks before a region goes, and the frames that are counted from then on.
+ghost use mathlib.Core.Path.{_≡_};
+ghost use lib.ListN.{getD};
+ghost use Rattle.model.specs.Calls.{reason};
+ghost use Rattle.regions.specs.Regions.{subregionsIn};
+ghost use Rattle.regions.specs.Laws.Steps.{enterings};
+ghost use Rattle.outcomes.specs.Store.{ledIn};
+ghost use Rattle.outcomes.specs.Outcome.{newlyIn};
+ghost use Rattle.checks.specs.Checks.{orElse, regionTests};
+ghost use Rattle.delete_parts.specs.Delete.{deleteTests};
+
+// Whether some slot of an uncounted frame leads into the region with that tag. The first that does ends the look.
+fn look<'a>(
+    standing: u32,
+    counted: u32,
+    widths: &'a [u8],
+    slots: &'a [u32],
+    owners: &'a [u8],
+    tag: u32,
+) -> bool
+    ensures { λ r. ⌜ r ≡ ledIn standing counted (now (widths .entry)) (now (slots .entry)) (now (owners .entry)) tag ⌝ }
+{
+    let n = frames::frame_count(standing);
+    let mut found = false;
+    let mut i = counted;
+    'look: while i < n {
+        let w = frames::width_at(widths, i);
+        let mut k: u32 = 0;
+        while k < w {
+            if pages::owner_of(owners, frames::slot_at(slots, i, k)) == tag {
+                found = true;
+                break 'look;
+            }
+            k += 1;
+        }
+        i += 1;
+    }
+    found
+}
+
+// Why the region of that name, with entry e and that tag, is not deleted; 0 if it may go.
+pub fn delete_refusal<'a>(
+    made: u32,
+    words: usize,
+    region: u32,
+    e: u32,
+    tag: u32,
+    names: &'a [u32],
+    parents: &'a [u8],
+    counts: &'a [u32],
+    standing: u32,
+    counted: u32,
+    widths: &'a [u8],
+    slots: &'a [u32],
+    owners: &'a [u8],
+) -> u32
+    ensures { λ r. ⌜ r ≡ orElse (reason (regionTests made words e)) (reason (deleteTests region (subregionsIn (now (names .entry)) (now (parents .entry)) tag) (getD (now (counts .entry)) e 0) (ledIn standing counted (now (widths .entry)) (now (slots .entry)) (now (owners .entry)) tag))) ⌝ }
+{
+    let g = checks::region_refusal(made, words, e);
+    if g != 0 {
+        return g;
+    }
+    if region == 1 {
+        return 3;
+    }
+    let below = regions::subregions_of(names, parents, tag);
+    let stored = regions::count_at(counts, e);
+    if below != 0 {
+        return 18;
+    }
+    if stored != 0 {
+        return 19;
+    }
+    if look(standing, counted, widths, slots, owners, tag) {
+        19
+    } else {
+        0
+    }
+}
+
+// The counts with the pointers of the frames that are counted once m is raised.
+pub fn enter_frames<'a>(
+    standing: u32,
+    counted: u32,
+    widths: &'a [u8],
+    slots: &'a [u32],
+    owners: &'a [u8],
+    counts: &mut [u32],
+)
+    ensures { λ _. ⌜ now (counts .exit) ≡ enterings (now (counts .entry)) (newlyIn standing counted (now (widths .entry)) (now (slots .entry)) (now (owners .entry))) ⌝ }
+{
+    let n = cells::less(frames::frame_count(standing));
+    let mut i = counted;
+    while i < n {
+        checks::enter_frame(widths, slots, owners, counts, i);
+        i += 1;
+    }
+}
