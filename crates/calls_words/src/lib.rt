@@ -122,17 +122,18 @@ pub fn view<'a>(s: State, heap: &'a [u32], slot: u32) -> &'a [u32]
     ensures { λ r. ⌜ Outcome (view slot) (store s (now (heap .entry))) (viewAnswer (store s (now (heap .entry))) slot (now r)) (store s (now (heap .entry))) ⌝ }
 {
     let f = s.frames;
-    let k = s.kinds;
+    let sizes = s.kinds.sizes;
+    let marks = s.kinds.marks;
     let v = checks::top_slot(f.standing, &f.slots, slot);
     let kind = objects::kind_of(objects::object_of(heap, v));
-    let size = kinds::size_of(k.declared, &k.sizes, kind);
+    let size = kinds::size_of(s.kinds.declared, &sizes, kind);
     let n = heap.len();
     let g = unseen(
         s.pages.made,
         n,
         f.standing,
         &f.widths,
-        &k.marks,
+        &marks,
         kind,
         size,
         v,

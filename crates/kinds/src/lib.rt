@@ -1,9 +1,9 @@
 // The kinds declared, a part of the state held by value. The functions take what they read: numbers, and arrays lent.
 ghost use mathlib.Core.Path.{_≡_};
 ghost use mathlib.Core.List.{map};
-ghost use Prim.Native.Nat.{_+_, _%_, _≤_};
+ghost use Prim.Native.Nat.{_%_};
 ghost use lib.Dec.{eqb, ltb};
-ghost use lib.ListN.{length, getD, set};
+ghost use lib.ListN.{set};
 ghost use lib.Seq.{sets};
 ghost use Rattle.lists.specs.Lists.{any, every, upTo};
 ghost use Rattle.model.specs.Model.{rule};
@@ -82,34 +82,19 @@ pub fn put_size(sizes: &mut [u8; 16], i: u32, n: u8)
     cells::store_byte(sizes, i as usize, n);
 }
 
-// Whether n marks from place `at` on are 0, where there are as many.
-fn zeros(marks: &[u8], at: usize, n: usize) -> bool
-    requires { ⌜ at + n ≤ length (now marks) ⌝ }
-    ensures { λ r. ⌜ r ≡ every (λ w. eqb (getD (now (marks .entry)) (at + w) 0) 0) (upTo n) ⌝ }
+// Whether the first `size` marks of kind n are 0.
+pub fn all_data(marks: &[u8], n: u32, size: u32) -> bool
+    ensures { λ r. ⌜ r ≡ every (λ w. eqb (markIn (now (marks .entry)) n w) 0) (upTo size) ⌝ }
 {
-    let mut w: usize = 0;
-    while w < n {
-        if marks[at + w] != 0 {
+    let at = 16 * (cells::less(n) as usize);
+    let mut w: u32 = 0;
+    while w < size {
+        if cells::byte(marks, at + (w as usize)) != 0 {
             return false;
         }
         w += 1;
     }
     true
-}
-
-// Whether the first `size` marks of kind n are 0, as what is past the last mark is.
-pub fn all_data(marks: &[u8], n: u32, size: u32) -> bool
-    ensures { λ r. ⌜ r ≡ every (λ w. eqb (markIn (now (marks .entry)) n w) 0) (upTo size) ⌝ }
-{
-    let at = 16 * (cells::less(n) as usize);
-    let m = size as usize;
-    if at + m <= marks.len() {
-        return zeros(marks, at, m);
-    }
-    if marks.len() <= at {
-        return true;
-    }
-    zeros(marks, at, marks.len() - at)
 }
 
 // Whether a word marked k, of an object of the region named h below the region named u, may lead into the region named t.

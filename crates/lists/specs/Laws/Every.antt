@@ -5,9 +5,7 @@ use mathlib.Core.Bool.{Bool, true, false, not, _&&_, _||_, true≢false, false�
 use mathlib.Core.List.{List, [], _∷_, map}
 use Prim.Native.Nat.{ℕ, _+_, _≤_, _<_}
 use native.Mathlib.Omega.{arith}
-use lib.Dec.{ltb}
 use borrow.Author.Count.{below-none, below-more}
-use borrow.Author.Tests.{ltb-true, ltb-false}
 use Rattle.lists.specs.Lists.{pick, every, keep, equal, All, joined, upTo}
 use Rattle.lists.specs.Laws.Tests.{both, by-test}
 use Rattle.lists.specs.Laws.Finds.{every-append}
@@ -54,13 +52,6 @@ every-below f g n h = every-same f g (upTo n) (all-upTo (λ i. f i ≡ g i) n h)
 -- one that fails below n
 pub every-not : (f : ℕ → Bool) (n i : ℕ) → i < n → f i ≡ false → every f (upTo n) ≡ false
 every-not f n i h e = by-test (every f (upTo n)) (λ t. absurd (true≢false (sym (every-each f n t i h) ∙ e))) (λ t. t)
-
--- all pass from n on
-pub every-past : (f : ℕ → Bool) (n m : ℕ) → n ≤ m → ((i : ℕ) → n ≤ i → f i ≡ true) → every f (upTo m) ≡ every f (upTo n)
-every-past f n m h p =
-    by-test (every f (upTo n))
-    (λ e. each-every f m (λ i l. by-test (ltb i n) (λ q. every-each f n e i (ltb-true i n q)) (λ q. p i (ltb-false i n q))) ∙ sym e)
-    (λ e. by-test (every f (upTo m)) (λ t. absurd (true≢false (sym (each-every f n (λ i l. every-each f m t i (omega arith))) ∙ e))) (λ t. t ∙ sym e))
 
 -- ---- a loop that tests f at 0, 1, .. below n, and has come to i
 
