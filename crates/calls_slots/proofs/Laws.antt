@@ -6,7 +6,7 @@ use mathlib.Core.List.{[], _∷_}
 use Prim.Native.Nat.{ℕ, _≤_, _<_}
 use lib.Dec.{ltb}
 use borrow.Author.Tests.{le-ltb, lt-ltb}
-use Rattle.model.specs.Model.{first, copy, fetch, clear, same, about}
+use Rattle.model.specs.Model.{first, copy, fetch, clear}
 use Rattle.model.specs.Calls.{reason, _yields_}
 use Rattle.outcomes.specs.Store.{Store}
 use Rattle.outcomes.specs.Outcome.{refusal, checks, dead, lacks, lacksBeneath, badLength, oneFrame}
@@ -29,14 +29,6 @@ module _ (S : Store) where
   pub clear-tests : (s : ℕ) → refusal S (clear s) ≡ reason (top S s s)
   unfolding refusal checks
   clear-tests s = one-slot S [] s ∙ or-zero (reason (top S s s))
-
-  pub same-tests : (s t : ℕ) → refusal S (same s t) ≡ reason (top S s t)
-  unfolding refusal checks
-  same-tests s t = two-slots S [] s t ∙ or-zero (reason (top S s t))
-
-  pub about-tests : (s : ℕ) → refusal S (about s) ≡ reason (top S s s)
-  unfolding refusal checks
-  about-tests s = one-slot S [] s ∙ or-zero (reason (top S s s))
 
 -- the test of a live region, as the entry found decides it
 pub refuses : (i j : ℕ) → i ≡ j → 64 ≤ i → reason (not (ltb j 64) yields 2 ∷ []) ≡ 2

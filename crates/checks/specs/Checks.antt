@@ -1,4 +1,4 @@
--- The tests that several calls begin with, in document 01's order, over the numbers and lists that they read.
+-- The tests that several calls share, in document 01's order, over the numbers and lists that they read.
 -- Assumes nothing.
 use mathlib.Core.Bool.{Bool, not, _||_}
 use mathlib.Core.List.{List, [], _∷_}

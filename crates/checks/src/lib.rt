@@ -1,4 +1,4 @@
-// Replies, the tests that several calls begin with, and the counts that the pointers of a frame enter or leave.
+// Replies, the tests that several calls share, and the counts that the pointers of a frame enter or leave.
 use state::Reply;
 ghost use mathlib.Core.Path.{_≡_};
 ghost use mathlib.Core.List.{[], _∷_};

@@ -1,4 +1,7 @@
 // The region store: what a user imports. Every call of document 01 under its name, and `call`, which takes the call's number.
+pub use calls_about::about;
+pub use calls_about::same;
+pub use calls_about::totals;
 pub use calls_allocate::allocate;
 pub use calls_audit::audit;
 pub use calls_delete::delete;
@@ -9,13 +12,10 @@ pub use calls_pointers::set_pointer;
 pub use calls_regions::new_region;
 pub use calls_regions::subregion;
 pub use calls_report::report;
-pub use calls_slots::about;
 pub use calls_slots::clear;
 pub use calls_slots::copy;
 pub use calls_slots::fetch;
 pub use calls_slots::first;
-pub use calls_slots::same;
-pub use calls_slots::totals;
 pub use calls_stack::drop;
 pub use calls_stack::hand_back;
 pub use calls_stack::push;

@@ -2,6 +2,7 @@ use mathlib.Core.Path.{_≡_}
 use mathlib.Core.Logic.{⊎-elim}
 use Prim.Native.Nat.{ℕ, _<_, _≤_, _-_}
 use lib.ListN.{length}
+use native.Mathlib.Omega.{arith}
 use borrow.Author.Needs.{needs}
 use borrow.Fn.Kinds.{In}
 use borrow.Fn.PlainCycle.{Measures, is, falls, and}
@@ -42,11 +43,11 @@ pub +bench-answering-spec : {M : Type 1} → statement M
     (λ c κs. search needs) (λ c. search needs) (λ c. search needs) (λ c κs. search needs) (λ c. search needs) (λ c. search needs)
     (λ c κs. search needs) (λ c κs. search needs) (λ c. search needs) (λ c κs. search needs) (λ c κs. search needs) (λ c κs. search needs) (λ c κs. search needs) (λ c κs. search needs) (λ c κs. search needs) (λ c κs. search needs)
     (λ c κs. search needs) (λ c. search needs)
-    (λ c. ⊎-elim (λ w. search needs)
-    (⊎-elim (λ w. search needs)
-    (⊎-elim (λ w. search needs)
-    (⊎-elim (λ w. search needs)
-    (⊎-elim (λ w. search needs)
-    (⊎-elim (λ w. search needs)
-    (⊎-elim (λ w. search needs) (λ w. search needs))))))) (c .before .match .came))
+    (λ c. let inv = c .before .before .before .loop .inv in ⊎-elim (λ w. (omega arith, search (needs, inv, w .3)))
+    (⊎-elim (λ w. (omega arith, search (needs, inv)))
+    (⊎-elim (λ w. (omega arith, search (needs, inv)))
+    (⊎-elim (λ w. (omega arith, search (needs, inv)))
+    (⊎-elim (λ w. (omega arith, search (needs, inv)))
+    (⊎-elim (λ w. (omega arith, search (needs, inv)))
+    (⊎-elim (λ w. (omega arith, search (needs, inv))) (λ w. (omega arith, search (needs, inv, w .3))))))))) (c .before .match .came))
     (λ c. search needs) (λ c. search needs))

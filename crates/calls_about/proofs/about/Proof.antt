@@ -8,9 +8,9 @@ use Rattle.objects.specs.Laws.Words.{object-header}
 use Rattle.outcomes.specs.Store.{slot}
 use Rattle.outcomes.specs.Outcome.{Accepted}
 use Rattle.outcomes.specs.Laws.Steps.{by-refusal, by-effect}
-use Rattle.calls_slots.proofs.Laws.{about-tests}
-use Rattle.calls_slots.proofs.about.Statement.{statement}
-use Rattle.calls_slots.proofs.about.Tie as tie
+use Rattle.calls_about.proofs.Laws.{about-tests}
+use Rattle.calls_about.proofs.about.Statement.{statement}
+use Rattle.calls_about.proofs.about.Tie as tie
 
 returns : tie.Need-returns
 returns c = by-refusal _ _ _ _ _ (about-tests _ _ ∙ sym (c .before .before .top-refusal .ensures)) (c .before .if1 .taken) (c .refused .ensures) refl

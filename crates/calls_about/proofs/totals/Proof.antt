@@ -4,8 +4,8 @@ use Rattle.regions.specs.Regions.{liveCount}
 use Rattle.pages.specs.Pages.{pagesOf}
 use Rattle.outcomes.specs.Outcome.{Accepted, refusal, checks}
 use Rattle.outcomes.specs.Laws.Steps.{by-effect}
-use Rattle.calls_slots.proofs.totals.Statement.{statement}
-use Rattle.calls_slots.proofs.totals.Tie as tie
+use Rattle.calls_about.proofs.totals.Statement.{statement}
+use Rattle.calls_about.proofs.totals.Tie as tie
 
 returns : tie.Need-returns
 unfolding Accepted refusal checks pagesOf liveCount
