@@ -19,21 +19,56 @@
 
 static uint32_t heap[WORDS];
 
-uint32_t bench_changing(uint32_t *heap, size_t words, uint32_t set_up, uint32_t which, uint32_t n);
-uint32_t bench_pairs(uint32_t *heap, size_t words, uint32_t set_up, uint32_t which, uint32_t n);
-uint32_t bench_answering(uint32_t *heap, size_t words, uint32_t set_up, uint32_t which, uint32_t n);
-uint32_t bench_again(uint32_t *heap, size_t words, uint32_t set_up, uint32_t which, uint32_t n);
+// Makes the calls `once` on a fresh store with the kinds of crates/bench, then the calls `again` so many times, then n calls that `which` says.
+typedef uint32_t run(uint32_t *heap, size_t words, const uint32_t *once, size_t n_once, const uint32_t *again, size_t n_again, uint32_t times, uint32_t which, uint32_t n);
+run bench_changing, bench_pairs, bench_answering, bench_again;
 
-// The stores, by their numbers in crates/bench.
-enum { PLAIN, STACKED, EMPTY, LADEN, FULL, HEAVY };
+// A call as crates/bench reads it: its number and three arguments.
+#define CALL(number, a, b, c) (number * 1000000 + a * 10000 + b * 100 + c)
+#define NEW_REGION CALL(3, 0, 0, 0)
+#define PUSH(slots) CALL(5, slots, 0, 0)
+#define ALLOCATE(slot, region, kind) CALL(8, slot, region, kind)
+#define COPY(from, to) CALL(10, from, to, 0)
+#define FETCH(from, to) CALL(11, from, to, 0)
+#define CLEAR(slot) CALL(12, slot, 0, 0)
+#define SET_POINTER(slot, word, value) CALL(14, slot, word, value)
+#define PUT(slot, word, value) CALL(15, slot, word, value)
+
+// Objects of a pointer and a number in slots 0 to 2, in regions 2 to 4.
+#define THREE NEW_REGION, ALLOCATE(0, 2, 1), NEW_REGION, ALLOCATE(1, 3, 1), NEW_REGION, ALLOCATE(2, 4, 1)
+// Those, the first two of which lead to the third and hold 7, and objects of three numbers in slots 3 and 4, in regions 5 and 6.
+#define FIVE THREE, SET_POINTER(0, 0, 2), PUT(0, 1, 7), SET_POINTER(1, 0, 2), PUT(1, 1, 7), NEW_REGION, ALLOCATE(3, 5, 3), NEW_REGION, ALLOCATE(4, 6, 3)
+// Every slot of the top frame leads to slot 0's object.
+#define COPIES COPY(0, 1), COPY(0, 2), COPY(0, 3), COPY(0, 4), COPY(0, 5), COPY(0, 6), COPY(0, 7)
+
+struct store {
+    const uint32_t *once;
+    size_t n_once;
+    const uint32_t *again;
+    size_t n_again;
+    uint32_t times;
+};
+
+#define CODES(...) (const uint32_t[]){__VA_ARGS__}, sizeof((const uint32_t[]){__VA_ARGS__}) / sizeof(uint32_t)
+
+// The plain store; with one frame more; with one region more, 7, which holds no page. Nothing is made again.
+static const struct store plain = {CODES(FIVE), CODES(0), 0};
+static const struct store stacked = {CODES(FIVE, PUSH(8)), CODES(0), 0};
+static const struct store empty = {CODES(FIVE, NEW_REGION), CODES(0), 0};
+// The plain one with 32 frames of 8 slots, none of them null, and none of the frames counted.
+static const struct store laden = {CODES(FIVE, COPIES), CODES(PUSH(8), FETCH(0, 0), COPIES), 31};
+// All 256 pages held: one by region 2, with an object in slot 0, and 255 by region 3, full of 8,160 objects of one free pointer, which leads to that object.
+static const struct store full = {CODES(NEW_REGION, ALLOCATE(0, 2, 2), NEW_REGION), CODES(ALLOCATE(1, 3, 2), SET_POINTER(1, 0, 0)), 8160};
+// Region 5 with 16 pages full of 256 objects of three free pointers, 768 in all, into regions 2 to 4; no slot leads into it.
+static const struct store heavy = {CODES(THREE, NEW_REGION), CODES(ALLOCATE(3, 5, 4), SET_POINTER(3, 0, 0), SET_POINTER(3, 1, 1), SET_POINTER(3, 2, 2), CLEAR(3)), 256};
 
 // `run` makes the call that has the number `which` there.
 // What a run of n calls gives is n / 2 * two + more: `two` is what the replies of two calls add up to, `more` the audit in the end, where there is one.
 // `most` bounds n, where names of regions would run out. `count` is n where instructions are counted. Every n is even.
 struct bench {
     const char *name;
-    uint32_t (*run)(uint32_t *heap, size_t words, uint32_t set_up, uint32_t which, uint32_t n);
-    uint32_t set_up;
+    run *run;
+    const struct store *store;
     uint32_t which;
     uint32_t two;
     uint32_t more;
@@ -43,37 +78,38 @@ struct bench {
 
 #define MOST 100000000
 static const struct bench benches[] = {
-    {"state_copy", bench_again, PLAIN, 0, 0, 1, MOST, 1000},
-    {"clear", bench_changing, PLAIN, 12, 0, 1, MOST, 1000},
-    {"call_clear", bench_changing, PLAIN, 112, 0, 1, MOST, 1000},
-    {"copy", bench_changing, PLAIN, 10, 0, 1, MOST, 1000},
-    {"fetch", bench_changing, STACKED, 11, 0, 1, MOST, 1000},
-    {"first", bench_changing, PLAIN, 9, 0, 1, MOST, 1000},
-    {"load", bench_changing, PLAIN, 13, 0, 1, MOST, 1000},
-    {"set_pointer", bench_changing, PLAIN, 14, 0, 1, MOST, 1000},
-    {"allocate", bench_again, PLAIN, 8, 0, 1, MOST, 1000},
-    {"allocate_page", bench_again, EMPTY, 108, 0, 1, MOST, 1000},
-    {"put", bench_answering, PLAIN, 15, 0, 0, MOST, 1000},
-    {"get", bench_answering, PLAIN, 16, 14, 0, MOST, 1000},
-    {"view", bench_answering, PLAIN, 17, 6, 0, MOST, 1000},
-    {"same", bench_answering, PLAIN, 18, 1, 0, MOST, 1000},
-    {"about", bench_answering, PLAIN, 19, 7, 0, MOST, 1000},
-    {"totals", bench_answering, PLAIN, 21, 516, 0, MOST, 1000},
-    {"push_drop", bench_pairs, PLAIN, 6, 0, 1, MOST, 1000},
-    {"push_hand_back", bench_pairs, PLAIN, 7, 0, 1, MOST, 1000},
-    {"region_delete", bench_pairs, PLAIN, 3, 0, 1, 400000, 1000},
-    {"subregion_delete", bench_pairs, PLAIN, 4, 0, 1, 400000, 1000},
-    {"report_plain", bench_answering, PLAIN, 20, 4, 0, MOST, 100},
-    {"report_full", bench_answering, FULL, 20, 32644, 0, MOST, 4},
-    {"report_frames", bench_answering, LADEN, 20, 514, 0, MOST, 100},
-    {"delete_pages", bench_again, HEAVY, 23, 32, 1, MOST, 20},
-    {"audit_plain", bench_answering, PLAIN, 22, 2, 0, MOST, 20},
-    {"audit_full", bench_answering, FULL, 22, 2, 0, MOST, 2},
+    {"state_copy", bench_again, &plain, 0, 0, 1, MOST, 1000},
+    {"clear", bench_changing, &plain, 12, 0, 1, MOST, 1000},
+    {"call_clear", bench_changing, &plain, 112, 0, 1, MOST, 1000},
+    {"copy", bench_changing, &plain, 10, 0, 1, MOST, 1000},
+    {"fetch", bench_changing, &stacked, 11, 0, 1, MOST, 1000},
+    {"first", bench_changing, &plain, 9, 0, 1, MOST, 1000},
+    {"load", bench_changing, &plain, 13, 0, 1, MOST, 1000},
+    {"set_pointer", bench_changing, &plain, 14, 0, 1, MOST, 1000},
+    {"allocate", bench_again, &plain, 8, 0, 1, MOST, 1000},
+    {"allocate_page", bench_again, &empty, 108, 0, 1, MOST, 1000},
+    {"put", bench_answering, &plain, 15, 0, 0, MOST, 1000},
+    {"get", bench_answering, &plain, 16, 14, 0, MOST, 1000},
+    {"view", bench_answering, &plain, 17, 6, 0, MOST, 1000},
+    {"same", bench_answering, &plain, 18, 1, 0, MOST, 1000},
+    {"about", bench_answering, &plain, 19, 7, 0, MOST, 1000},
+    {"totals", bench_answering, &plain, 21, 516, 0, MOST, 1000},
+    {"push_drop", bench_pairs, &plain, 6, 0, 1, MOST, 1000},
+    {"push_hand_back", bench_pairs, &plain, 7, 0, 1, MOST, 1000},
+    {"region_delete", bench_pairs, &plain, 3, 0, 1, 400000, 1000},
+    {"subregion_delete", bench_pairs, &plain, 4, 0, 1, 400000, 1000},
+    {"report_plain", bench_answering, &plain, 20, 4, 0, MOST, 100},
+    {"report_full", bench_answering, &full, 20, 32644, 0, MOST, 4},
+    {"report_frames", bench_answering, &laden, 20, 514, 0, MOST, 100},
+    {"delete_pages", bench_again, &heavy, 23, 32, 1, MOST, 20},
+    {"audit_plain", bench_answering, &plain, 22, 2, 0, MOST, 20},
+    {"audit_full", bench_answering, &full, 22, 2, 0, MOST, 2},
 };
 #define BENCHES (sizeof benches / sizeof benches[0])
 
 static void checked(const struct bench *b, uint32_t n) {
-    uint32_t sum = b->run(heap, WORDS, b->set_up, b->which, n);
+    const struct store *s = b->store;
+    uint32_t sum = b->run(heap, WORDS, s->once, s->n_once, s->again, s->n_again, s->times, b->which, n);
     uint32_t want = n / 2 * b->two + b->more;
     if (sum != want) {
         fprintf(stderr, "%s: %" PRIu32 " calls add up to %" PRIu32 ", not %" PRIu32 "\n", b->name, n, sum, want);

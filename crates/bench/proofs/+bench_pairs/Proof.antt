@@ -17,20 +17,20 @@ use Rattle.store.proofs.push.Reads as push-reads
 use Rattle.bench.proofs.+bench_pairs.{statement}
 use Rattle.bench.proofs.+bench_pairs.Tie.{close}
 
-abbrev μ-bench-pairs : Measures 1 bench-pairs-kinds.ps ℕ
-μ-bench-pairs κs a = a .1 .1 .1 .0
+abbrev μ-bench-pairs : Measures 3 bench-pairs-kinds.ps ℕ
+μ-bench-pairs κs a = a .1 .1 .1 .1 .1 .0
 
-abbrev bench-pairs-at : ℕ → In 1 bench-pairs-kinds.ps
-bench-pairs-at t = and 1 bench-pairs-kinds.ps (is 1 bench-pairs-kinds.ps μ-bench-pairs t) bench-pairs.Pre
+abbrev bench-pairs-at : ℕ → In 3 bench-pairs-kinds.ps
+bench-pairs-at t = and 3 bench-pairs-kinds.ps (is 3 bench-pairs-kinds.ps μ-bench-pairs t) bench-pairs.Pre
 
-abbrev bench-pairs-below : ℕ → In 1 bench-pairs-kinds.ps
-bench-pairs-below t = and 1 bench-pairs-kinds.ps (falls 1 bench-pairs-kinds.ps _<_ μ-bench-pairs t) bench-pairs.Pre
+abbrev bench-pairs-below : ℕ → In 3 bench-pairs-kinds.ps
+bench-pairs-below t = and 3 bench-pairs-kinds.ps (falls 3 bench-pairs-kinds.ps _<_ μ-bench-pairs t) bench-pairs.Pre
 
 abbrev Inv-loop : bench-pairs-lts.InvT-loop
-Inv-loop heap set-up which n s₀ sum₀ i₀ s sum i = i ≤ n
+Inv-loop heap once again times which n s₀ sum₀ i₀ s sum i = i ≤ n
 
 abbrev μ-loop : bench-pairs-lts.MeasureT-loop
-μ-loop heap set-up which n s₀ sum₀ i₀ s sum i = n - i
+μ-loop heap once again times which n s₀ sum₀ i₀ s sum i = n - i
 
 pub +bench-pairs-spec : {M : Type 1} → statement M
 +bench-pairs-spec = close μ-bench-pairs (λ t. bench-pairs-lts.spec (bench-pairs-below t, bench-pairs.Post, prepared-for-reads.Asked, prepared-for-reads.Learnt, new-region-reads.Asked, new-region-reads.Learnt, refused-reads.Asked, refused-reads.Learnt, delete-reads.Asked, delete-reads.Learnt, subregion-reads.Asked, subregion-reads.Learnt, push-reads.Asked, push-reads.Learnt, drop-reads.Asked, drop-reads.Learnt, hand-back-reads.Asked, hand-back-reads.Learnt, ended-reads.Asked, ended-reads.Learnt) (bench-pairs-at t) bench-pairs.Post Inv-loop μ-loop
