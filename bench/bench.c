@@ -19,7 +19,7 @@
 
 static uint32_t heap[WORDS];
 
-// Makes the calls `once` on a fresh store with the kinds of crates/bench, then the calls `again` so many times, then n calls that `which` says.
+// Makes the calls `once` on a fresh store with the kinds and the frame of crates/bench, then the calls `again` so many times, then n calls that `which` says.
 typedef uint32_t run(uint32_t *heap, size_t words, const uint32_t *once, size_t n_once, const uint32_t *again, size_t n_again, uint32_t times, uint32_t which, uint32_t n);
 run bench_changing, bench_pairs, bench_answering, bench_again;
 
@@ -63,7 +63,7 @@ static const struct store full = {CODES(NEW_REGION, ALLOCATE(0, 2, 2), NEW_REGIO
 static const struct store heavy = {CODES(THREE, NEW_REGION), CODES(ALLOCATE(3, 5, 4), SET_POINTER(3, 0, 0), SET_POINTER(3, 1, 1), SET_POINTER(3, 2, 2), CLEAR(3)), 256};
 
 // `run` makes the call that has the number `which` there.
-// What a run of n calls gives is n / 2 * two + more: `two` is what the replies of two calls add up to, `more` the audit in the end, where there is one.
+// What a run of n calls gives is n / 2 * two + more: `two` is what the replies of two calls add up to (their refusals alone, where the state changes), `more` the audit in the end, where there is one.
 // `most` bounds n, where names of regions would run out. `count` is n where instructions are counted. Every n is even.
 struct bench {
     const char *name;

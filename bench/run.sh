@@ -1,5 +1,5 @@
 #!/usr/bin/env bash
-# What the calls cost on this machine: for each call the least time and the instructions, then the time of two long scripts.
+# What the calls cost on this machine: for each call but make and declare the least time and the instructions, then the time of two long scripts.
 # Needs rt, gcc, valgrind and python3. Writes only under target/. Names of calls: only those lines; no script then.
 set -eu
 cd "$(dirname "$0")/.."

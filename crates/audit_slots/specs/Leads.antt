@@ -1,4 +1,4 @@
--- The audit's tests of each region's newest page and oldest object, and of the slots, as code runs them (document 01, Audit), over the numbers and lists that they read.
+-- The audit's tests of newest pages, oldest objects and slots, as code runs them (document 01, Audit), over the numbers and lists that they read.
 -- Those that look pointers up are over any test `stands` of a place.
 -- Assumes nothing.
 use mathlib.Core.Bool.{Bool, _&&_, _||_}

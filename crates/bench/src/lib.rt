@@ -1,7 +1,7 @@
 // What the calls cost: functions that C calls, each of which makes a store in the heap that it is lent, then makes one call n times.
 // A call costs the difference of a run of 2n and one of n, divided by n: making the store cancels out.
 // `once`, `again` and `times` say which store, as `prepared_for` reads them; `which` says which call, by its number in `store::call`, of a pair by the number of one of the two.
-// Each gives a sum of the replies, so that C can see that the calls were accepted, and none of them is left out by the compiler.
+// Each gives a sum of the replies, or of their grounds of refusal alone where the state changes, so that C can see that the calls were accepted, and none of them is left out by the compiler.
 use state::Reply;
 use state::State;
 
@@ -206,7 +206,7 @@ pub extern "C" fn bench_answering(
     sum
 }
 
-// Calls that would use the store up, each time on the same state: 8 is allocate where the newest page has room, 108 in region 7, which has no page yet.
+// Calls that would use the store up, each time on the same state: 8 is allocate where the newest page has room, 108 in region 7, which has no page yet, and 23 the delete of region 5.
 // For comparison 0: one copy of the state, changed in one number.
 #[no_mangle]
 pub extern "C" fn bench_again(

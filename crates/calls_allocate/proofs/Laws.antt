@@ -60,7 +60,7 @@ module _ (S : Store) (i n : ℕ) where
   place = let p = pages S in placeFor (p .made) (p .owners) (p .taken) (getD ((regions S) .newest) i 0) n
 
   -- no place is what 13 asks
-  pub place-none : eqb place 0 ≡ (not (roomy S i n) && eqb (pagesOf (pages S) 0) 0)
+  place-none : eqb place 0 ≡ (not (roomy S i n) && eqb (pagesOf (pages S) 0) 0)
   unfolding placeFor roomy newestAt takenAt
   place-none = go (roomyIn ((pages S) .taken) newest n)
     where
@@ -72,7 +72,7 @@ module _ (S : Store) (i n : ℕ) where
   start j = pick (roomy S i n) (takenAt (pages S) j) 0
 
   -- a place is on a page that may be chosen
-  pub place-some : 0 < n → place ≢ 0 → (j : ℕ) × Chosen S i n j × (start j < 64) × (place ≡ 64 * j + start j + 1)
+  place-some : 0 < n → place ≢ 0 → (j : ℕ) × Chosen S i n j × (start j < 64) × (place ≡ 64 * j + start j + 1)
   unfolding placeFor roomy freePlace newestAt takenAt firstFree pageCount roomyIn
   place-some h = go noRoom refl
     where

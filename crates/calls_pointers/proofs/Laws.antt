@@ -55,7 +55,7 @@ set-parts S s w v =
     set-tests S s w v ∙ ap₂ (λ a b. orElse a (reason (b yields 17 ∷ []))) (load-tests S s w v) (breaks-in S s w (held S v))
     ∙ else-else (reason (top S s v)) (pointerRefusal ((kinds S) .declared) ((kinds S) .sizes) ((kinds S) .marks) (object S s) (held S s) w) _
 
-pub set-read : (declared : ℕ) (sizes marks names parents owners heap : List ℕ) (v w x : ℕ) → setRefusal declared sizes marks names parents owners (objectOf heap v) v w x ≡ 0
+set-read : (declared : ℕ) (sizes marks names parents owners heap : List ℕ) (v w x : ℕ) → setRefusal declared sizes marks names parents owners (objectOf heap v) v w x ≡ 0
     → wordIn (objectOf heap v) w ≡ wordAt heap v w
 set-read declared sizes marks names parents owners heap v w x e =
     word-read declared sizes heap v w _ (sym (else-else (reason (wordTests declared sizes (objectOf heap v) v w)) (reason (eqb (markIn marks (headerIn (objectOf heap v)) w) 0 yields 16 ∷ [])) _) ∙ e)

@@ -5,7 +5,7 @@ ghost use mathlib.Core.List.{[]};
 ghost use Rattle.model.specs.Model.{first, copy, fetch, clear};
 ghost use Rattle.outcomes.specs.Outcome.{Outcome, answerOf, store};
 
-// Document 01's call 9: the slot gets the region's oldest object.
+// Document 01's call 9: puts the oldest object of the region in the slot.
 pub fn first(s: State, heap: &[u32], slot: u32, region: u32) -> Done
     ensures { λ r. ⌜ Outcome (first slot region) (store s (now (heap .entry))) (answerOf (r .reply) []) (store (r .state) (now (heap .entry))) ⌝ }
 {

@@ -1,5 +1,5 @@
--- The tests that the calls on data run after those of their slots, in document 01's order, over the numbers and lists that they read.
--- An object is given as the part of the heap that begins at its header.
+-- The tests that put and get run after those of their slot, for an object given as the part of the heap that begins at its header; and all of view's, the slot's among
+-- them, for an object given by its kind and size. In document 01's order, over the numbers and lists that they read.
 -- Assumes nothing.
 use mathlib.Core.Bool.{not}
 use mathlib.Core.List.{List, [], _∷_}

@@ -4,7 +4,9 @@
 use mathlib.Core.List.{List, [], _∷_, _++_}
 use Prim.Native.Nat.{ℕ}
 use lib.ListN.{set, replicate}
-use Rattle.outcomes.specs.Store.{Store}
+use Rattle.regions.specs.Regions.{withRegion}
+use Rattle.outcomes.specs.Store.{Store, regions}
+use Rattle.outcomes.specs.Outcome.{withRegions}
 
 -- the numbers and arrays of the state in their order, then the heap
 abbrev mem : ℕ → ℕ → List ℕ → List ℕ → ℕ → List ℕ → List ℕ → ℕ → List ℕ → List ℕ → List ℕ → List ℕ → List ℕ → List ℕ → ℕ → List ℕ → List ℕ → List ℕ → Store
@@ -78,6 +80,10 @@ above = 0 ∷ 1 ∷ 2 ∷ 3 ∷ 4 ∷ 5 ∷ 6 ∷ 7 ∷ 8 ∷ 9 ∷ 10 ∷ 11 �
 
 abbrev pub small : Store
 small = mem 2 1 ws sl 3 sz mk 7 nm pa lv ct nw ol 2 ow tk hp
+
+-- `small` with a region more, named 8, which has no page yet
+abbrev pub grown : Store
+grown = withRegions small (withRegion (regions small) 1 0 1)
 
 -- a memory, and the numbers of Sound's clauses that it breaks, from 0 in the order of the fields:
 -- 0 counts, 1 slots, 2 words, 3 held, 4 made, 5 declared, 6 sizes, 7 marks, 8 standing, 9 widths, 10 levels, 11 given, 12 counted, 13 heapLength, 14 distinct, 15 past, 16 one, 17 parents, 18 filling, 19 newest, 20 oldest

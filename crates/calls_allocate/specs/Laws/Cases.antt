@@ -12,17 +12,13 @@ use Rattle.frames.specs.Frames.{frameCount, topFrame, widthAt, slotAt, putSlot}
 use Rattle.kinds.specs.Kinds.{kindCount, sizeOf, sizeIn}
 use Rattle.regions.specs.Regions.{nameAt, entryOf, tagOf, isLive, newestAt, oldestAt, unused, withRegion, withPage, entryIn, unusedIn}
 use Rattle.pages.specs.Pages.{pageCount, ownerAt, takenAt, isFree, pagesOf, wrongLength, withTaken, pagesIn, wrongLengthIn}
-use Rattle.outcomes.specs.Store.{Store, regions, pages, slot, size, roomy, roomyIn}
-use Rattle.outcomes.specs.Outcome.{withRegions, withPages, withHeap, badLength, noFrame, lacks, dead, checks, refusal, fillSlot, allocated}
-use Rattle.outcomes.specs.Examples.{small}
+use Rattle.outcomes.specs.Store.{Store, pages, slot, size, roomy, roomyIn}
+use Rattle.outcomes.specs.Outcome.{withPages, withHeap, badLength, noFrame, lacks, dead, checks, refusal, fillSlot, allocated}
+use Rattle.outcomes.specs.Examples.{small, grown}
 
--- `small` with a region more, named 8, which has no page yet
-abbrev four : Store
-four = withRegions small (withRegion (regions small) 1 0 1)
-
--- and with a page more, which is free
+-- `grown` with a page more, which is free
 abbrev roomier : Store
-roomier = withHeap (withPages four (record { made = 3; owners = 1 ∷ 3 ∷ 0 ∷ replicate 253 77; taken = 6 ∷ 7 ∷ replicate 254 0 })) (replicate 192 0)
+roomier = withHeap (withPages grown (record { made = 3; owners = 1 ∷ 3 ∷ 0 ∷ replicate 253 77; taken = 6 ∷ 7 ∷ replicate 254 0 })) (replicate 192 0)
 
 -- `small` with all but two words of page 1 taken
 abbrev tight : Store
@@ -32,7 +28,7 @@ tight = withPages small (record { made = 2; owners = (pages small) .owners; take
 abbrev cases : List (ℕ × ℕ)
 cases =
     -- no_page_while_one_is_free: region 8 has no page
-    (refusal four (allocate 0 8 1), 13)
+    (refusal grown (allocate 0 8 1), 13)
     ∷ (refusal roomier (allocate 0 8 1), 0)
     -- takes_page_0_free_or_not
     ∷ (bit (isFree (pages roomier) 0), 0)

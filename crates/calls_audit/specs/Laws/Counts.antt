@@ -2,7 +2,7 @@
 -- Assumes nothing.
 use mathlib.Core.Path.{_≡_, refl, sym, ap, _∙_}
 use mathlib.Core.Logic.{_≢_}
-use mathlib.Core.Bool.{Bool, true, false, not, _&&_, _||_}
+use mathlib.Core.Bool.{Bool, true, false, not, _||_}
 use mathlib.Core.List.{List, [], map}
 use Prim.Native.Nat.{ℕ, suc, _+_, _-_, _*_, _%_, _≤_, _<_, min}
 use native.Mathlib.Omega.{arith}
@@ -10,7 +10,7 @@ use lib.Dec.{eqb, leb}
 use lib.ListN.{getD}
 use borrow.Author.Tests.{eqb-true, eqb-false, eq-eqb, ne-eqb, leb-true}
 use Rattle.lists.specs.Lists.{bit, pick, keep, sum, count, All, joined, upTo, times}
-use Rattle.lists.specs.Laws.Tests.{both, by-test, or-other, eqb-sym}
+use Rattle.lists.specs.Laws.Tests.{both, by-test, or-other, eqb-sym, or-known}
 use Rattle.lists.specs.Laws.All.{all-map, all-change}
 use Rattle.lists.specs.Laws.Sums.{sum-map, sum-append, sum-joined, sum-most, count-most}
 use Rattle.lists.specs.Laws.Finds.{every-true, times-keep}
@@ -44,10 +44,6 @@ eqb-iff a b c d f g = by-test (eqb c d) (λ e. rw e (eq-eqb a b (g (eqb-true c d
 rolled-zero : (c t : ℕ) → c < 4294967296 → t < 4294967296 → eqb (rolled c 0 t) 0 ≡ eqb c t
 unfolding rolled
 rolled-zero c t h k = eqb-iff ((c + 0 + t * 4294967295) % 4294967296) 0 c t (λ e. omega arith) (λ e. omega arith)
-
-or-known : (a b c : Bool) → (a || (b && c)) ≡ true → (a || b) ≡ true
-or-known true b c e = refl
-or-known false b c e = both b c e .0
 
 pick-not : (b : Bool) (n : ℕ) → pick (not b) n 0 ≡ pick b 0 n
 pick-not true n = refl

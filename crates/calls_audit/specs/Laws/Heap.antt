@@ -10,7 +10,7 @@ use native.Mathlib.Omega.{arith}
 use lib.Dec.{eqb, ltb, eqb·suc-zero}
 use lib.ListN.{length, getD, replicate}
 use borrow.Author.Tests.{eqb-true, eqb-false, ne-eqb, not-true}
-use Rattle.lists.specs.Lists.{every, sum, All, upTo, among}
+use Rattle.lists.specs.Lists.{every, sum, All, upTo}
 use Rattle.lists.specs.Laws.Tests.{both, by-test, or-other, or-right}
 use Rattle.lists.specs.Laws.All.{all-map}
 use Rattle.lists.specs.Laws.UpTo.{all-upTo, every-each, each-every}

@@ -11,11 +11,7 @@ use Rattle.regions.specs.Regions.{nameAt, entryOf, tagOf, isLive, liveCount, le
 use Rattle.pages.specs.Pages.{wrongLength, wrongLengthIn}
 use Rattle.outcomes.specs.Store.{Store, regions}
 use Rattle.outcomes.specs.Outcome.{withRegions, badLength, dead, full, namesOut, checks, refusal}
-use Rattle.outcomes.specs.Examples.{small}
-
--- `small` with a region more, named 8, which has no page yet
-abbrev four : Store
-four = withRegions small (withRegion (regions small) 1 0 1)
+use Rattle.outcomes.specs.Examples.{small, grown}
 
 -- 64 live regions, named 1 to 64
 abbrev crowded : Store
@@ -29,10 +25,10 @@ cases =
     ∷ (refusal crowded (subregion 1), 4)
     -- same_name_twice
     ∷ ((regions small) .given, 7)
-    ∷ ((regions four) .given, 8)
+    ∷ ((regions grown) .given, 8)
     -- new_count_is_not_0: the entry held 77
     ∷ (countAt (regions small) 1, 77)
-    ∷ (countAt (regions four) 1, 0)
+    ∷ (countAt (regions grown) 1, 0)
     -- subregion_at_the_level_above: region 5 is at level 2
     ∷ (levelAt (withRegion (regions small) 1 (tagOf (regions small) 5) (levelAt (regions small) (entryOf (regions small) 5) + 1)) 1, 3)
     ∷ []

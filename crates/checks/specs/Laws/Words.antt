@@ -34,7 +34,7 @@ module _ (S : Store) (s : ℕ) where
   abbrev pub mark : ℕ → ℕ
   mark w = markIn ((kinds S) .marks) (headerIn object) w
 
-  -- a test on a word's mark, after those of its slots
+  -- a test on a word's mark, after those of the word
   pub tested : (test : Bool → Bool) (w : ℕ)
       → reason (eqb (slot S s) 0 yields 14 ∷ noWord S s w yields 15 ∷ test (isData S s w) yields 16 ∷ []) ≡ orElse (reason (words w)) (reason (test (eqb (mark w) 0) yields 16 ∷ []))
   unfolding wordTests noWord isData wordCount markOf markAt sizeOf slot slotAt topFrame

@@ -26,6 +26,11 @@ pub or-other : (a b : Bool) → (a || b) ≡ true → a ≡ false → b ≡ true
 or-other true b e f = absurd (true≢false f)
 or-other false b e f = e
 
+-- of two tests, one of them of two parts
+pub or-known : (a b c : Bool) → (a || (b && c)) ≡ true → (a || b) ≡ true
+or-known true b c e = refl
+or-known false b c e = both b c e .0
+
 pub bit-zero : (b : Bool) → bit b ≡ 0 → b ≡ false
 bit-zero true e = absurd (omega arith)
 bit-zero false e = refl

@@ -10,7 +10,7 @@ use lib.Dec.{eqb, ltb, leb}
 use lib.ListN.{length, getD, length-map, List·getD-eq-default}
 use borrow.Author.Tests.{ltb-true, ltb-false, leb-true, leb-false, eqb-true, eqb-false, ne-eqb}
 use Rattle.lists.specs.Lists.{pick, every, find, All}
-use Rattle.lists.specs.Laws.Tests.{by-test, both, or-other}
+use Rattle.lists.specs.Laws.Tests.{by-test, both, or-other, or-known}
 use Rattle.lists.specs.Laws.All.{all-in, all-change}
 use Rattle.lists.specs.Laws.Finds.{every-true}
 use Rattle.lists.specs.Laws.UpTo.{every-each, getD-map-upTo, length-map-upTo}
@@ -37,10 +37,6 @@ use Rattle.refinement.specs.Laws.RebuildTree.{regions-agree, names-valid
 use Rattle.refinement.specs.Laws.RebuildPages.{pages-all}
 
 -- of two tests, one of them null
-or-known : (a b c : Bool) → (a || (b && c)) ≡ true → (a || b) ≡ true
-or-known true b c e = refl
-or-known false b c e = both b c e .0
-
 or-rule : (a b c : Bool) → (a || (b && c)) ≡ true → (a || c) ≡ true
 or-rule true b c e = refl
 or-rule false b c e = both b c e .1

@@ -14,8 +14,6 @@ use Rattle.lists.specs.Laws.UpTo.{count-next, length-upTo}
 use Rattle.regions.specs.Regions.{subregionsIn}
 use Rattle.regions.proofs.subregions_of.Statement.{statement}
 use Rattle.regions.proofs.subregions_of.Tie as tie
-use Rattle.regions.proofs.subregions_of.Reads as reads
-use Rattle.regions.proofs.subregions_of.Lts as lts
 
 abbrev below : List ℕ → List ℕ → ℕ → ℕ → Bool
 below names parents t i = not (eqb (getD names i 0) 0) && eqb (getD parents i 0) t
