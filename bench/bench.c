@@ -24,7 +24,7 @@ typedef uint32_t run(uint32_t *heap, size_t words, const uint32_t *once, size_t 
 run bench_changing, bench_pairs, bench_answering, bench_again;
 
 // A call as crates/bench reads it: its number and three arguments.
-#define CALL(number, a, b, c) (number * 1000000 + a * 10000 + b * 100 + c)
+#define CALL(number, a, b, c) ((number) * 1000000 + (a) * 10000 + (b) * 100 + (c))
 #define NEW_REGION CALL(3, 0, 0, 0)
 #define PUSH(slots) CALL(5, slots, 0, 0)
 #define ALLOCATE(slot, region, kind) CALL(8, slot, region, kind)
