@@ -6,7 +6,7 @@ use mathlib.Core.List.{List, [], _∷_}
 use Prim.Native.Nat.{ℕ, _+_}
 use lib.Dec.{eqb}
 use lib.ListN.{getD, set}
-use Rattle.lists.specs.Lists.{pick, every, sum, joined, upTo}
+use Rattle.lists.specs.Lists.{pick, every, sumOf, joined, upTo}
 use Rattle.kinds.specs.Kinds.{kindsWith, sizeIn}
 use Rattle.regions.specs.Regions.{nameIn}
 use Rattle.pages.specs.Pages.{pageCountIn, takenIn}
@@ -18,7 +18,7 @@ headersIn declared sizes heap j n = headersTo (kindsWith declared sizes []) heap
 
 -- the words that these objects take
 unfoldable pub filledTo : ℕ → List ℕ → List ℕ → ℕ → ℕ → ℕ
-filledTo declared sizes heap j n = sum (λ q. 1 + sizeIn declared sizes (getD heap q 0)) (headersIn declared sizes heap j n)
+filledTo declared sizes heap j n = sumOf (λ q. 1 + sizeIn declared sizes (getD heap q 0)) (headersIn declared sizes heap j n)
 
 -- page j is free; or its owner is in use, and its objects take just the words taken
 unfoldable pub pageFits : ℕ → List ℕ → List ℕ → List ℕ → List ℕ → List ℕ → ℕ → Bool

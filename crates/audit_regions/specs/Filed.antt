@@ -5,7 +5,7 @@ use mathlib.Core.List.{List}
 use Prim.Native.Nat.{ℕ, _+_, _-_}
 use lib.Dec.{eqb, ltb, leb}
 use lib.ListN.{getD}
-use Rattle.lists.specs.Lists.{pick, every, count, upTo}
+use Rattle.lists.specs.Lists.{pick, every, countOf, upTo}
 use Rattle.regions.specs.Regions.{entryIn}
 
 -- entry i: with none above, at level 1; else not region 1, and one level below an entry in use
@@ -18,7 +18,7 @@ placedAt names parents levels i =
 
 -- how many entries have the name n
 unfoldable pub namesakes : List ℕ → ℕ → ℕ
-namesakes names n = count (λ k. eqb (getD names k 0) n) (upTo 64)
+namesakes names n = countOf (λ k. eqb (getD names k 0) n) (upTo 64)
 
 -- entry i in use: its name was given and is no other's, its level is at most 16, and it stands right below the entry above it
 unfoldable pub regionFits : ℕ → List ℕ → List ℕ → List ℕ → ℕ → Bool

@@ -23,7 +23,7 @@ use Rattle.outcomes.specs.Store.{Store, kinds, regions, pages, size, roomy, roo
 use Rattle.outcomes.specs.Outcome.{Chosen, withRegions, withPages, withHeap, refusal, checks, dead, fillSlot, allocated, Accepted, Outcome}
 use Rattle.kinds.specs.Laws.Marks.{size-most}
 use Rattle.outcomes.specs.Laws.Steps.{by-effect}
-use Rattle.checks.specs.Checks.{orElse}
+use Rattle.checks.specs.Checks.{firstRefusal}
 use Rattle.checks.specs.Laws.Tests.{top, one-slot, else-first, else-next}
 use Rattle.calls_allocate.specs.Places.{allocateTests, freePlace, placeFor, oldestWith}
 
@@ -97,7 +97,7 @@ module _ (S : Store) (slot region kind : ℕ) where
   abbrev second : ℕ
   second = reason (allocateTests ((kinds S) .declared) entry kind (place S entry (1 + words)))
 
-  tests : refusal S (allocate slot region kind) ≡ orElse (reason (top S slot slot)) second
+  tests : refusal S (allocate slot region kind) ≡ firstRefusal (reason (top S slot slot)) second
   unfolding refusal checks dead isLive entryOf size sizeOf kindCount allocateTests
   tests =
       one-slot S (dead S region yields 2 ∷ (eqb kind 0 || ltb (kindCount (kinds S)) kind) yields 12 ∷ (not (roomy S entry (1 + words)) && eqb (pagesOf (pages S) 0) 0) yields 13 ∷ []) slot

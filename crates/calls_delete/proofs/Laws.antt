@@ -17,7 +17,7 @@ use Rattle.objects.specs.Objects.{freeWordsOf, outOf}
 use Rattle.outcomes.specs.Store.{Store, frames, kinds, regions, pages, ledIn, ledInto}
 use Rattle.outcomes.specs.Outcome.{Outcome, Accepted, checks, refusal, recounted, outgoing, newlyIn, newlyCounted, deleted}
 use Rattle.outcomes.specs.Laws.Steps.{by-effect, by-parts}
-use Rattle.checks.specs.Checks.{orElse, regionTests}
+use Rattle.checks.specs.Checks.{firstRefusal, regionTests}
 use Rattle.checks.specs.Laws.Tests.{one-region}
 use Rattle.delete_parts.specs.Delete.{deleteTests}
 
@@ -32,12 +32,12 @@ module _ (S : Store) (r : ℕ) where
       let g = regions S in
       deleteTests r (subregionsIn (g .names) (g .parents) (e + 1)) (getD (g .counts) e 0) (ledIn (f .standing) (f .counted) (f .widths) (f .slots) ((pages S) .owners) (e + 1))
 
-  delete-refused : refusal S (delete r) ≡ orElse (reason (regionTests ((pages S) .made) (length (S .heap)) entry)) (reason (tests entry))
+  delete-refused : refusal S (delete r) ≡ firstRefusal (reason (regionTests ((pages S) .made) (length (S .heap)) entry)) (reason (tests entry))
   unfolding refusal checks deleteTests ledInto entryOf tagOf subregionsOf countAt
   delete-refused = one-region S (tests entry) r
 
   -- e and g are what functions gave: the region's entry, and for the tests
-  module _ (e g : ℕ) (found : e ≡ entry) (asked : g ≡ orElse (reason (regionTests ((pages S) .made) (length (S .heap)) e)) (reason (tests e))) where
+  module _ (e g : ℕ) (found : e ≡ entry) (asked : g ≡ firstRefusal (reason (regionTests ((pages S) .made) (length (S .heap)) e)) (reason (tests e))) where
     pub delete-second : refusal S (delete r) ≡ g
     delete-second = delete-refused ∙ sym (asked ∙ rw found)
 

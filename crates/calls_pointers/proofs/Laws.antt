@@ -25,20 +25,20 @@ use Rattle.objects.specs.Laws.Words.{object-header}
 use Rattle.outcomes.specs.Store.{Store, kinds, regions, pages, slot, breaks, breaksIn}
 use Rattle.outcomes.specs.Outcome.{Outcome, Accepted, refusal, checks, noWord, isData, withRegions, withHeap, fillSlot, pointed, writeWord, recounted, countedIn}
 use Rattle.outcomes.specs.Laws.Steps.{reason-append, by-effect}
-use Rattle.checks.specs.Checks.{orElse, wordTests}
+use Rattle.checks.specs.Checks.{firstRefusal, wordTests}
 use Rattle.checks.specs.Laws.Tests.{top, two-slots, else-next}
 use Rattle.checks.specs.Laws.Words.{held, object, mark, tested, word-read}
 use Rattle.calls_pointers.specs.Pointers.{pointerRefusal, setRefusal, countedTag, tagLeft, tagEntered}
 
-else-else : (a b c : ℕ) → orElse (orElse a b) c ≡ orElse a (orElse b c)
+else-else : (a b c : ℕ) → firstRefusal (firstRefusal a b) c ≡ firstRefusal a (firstRefusal b c)
 else-else a b c = by-test (eqb a 0) (λ e. rw e) (λ e. rw (e, e))
 
 module _ (S : Store) (s : ℕ) where
-  pub load-tests : (w t : ℕ) → refusal S (load s w t) ≡ orElse (reason (top S s t)) (pointerRefusal ((kinds S) .declared) ((kinds S) .sizes) ((kinds S) .marks) (object S s) (held S s) w)
+  pub load-tests : (w t : ℕ) → refusal S (load s w t) ≡ firstRefusal (reason (top S s t)) (pointerRefusal ((kinds S) .declared) ((kinds S) .sizes) ((kinds S) .marks) (object S s) (held S s) w)
   unfolding refusal checks
-  load-tests w t = two-slots S (eqb (slot S s) 0 yields 14 ∷ noWord S s w yields 15 ∷ isData S s w yields 16 ∷ []) s t ∙ ap (orElse (reason (top S s t))) (tested S s (λ b. b) w)
+  load-tests w t = two-slots S (eqb (slot S s) 0 yields 14 ∷ noWord S s w yields 15 ∷ isData S s w yields 16 ∷ []) s t ∙ ap (firstRefusal (reason (top S s t))) (tested S s (λ b. b) w)
 
-  set-tests : (w v : ℕ) → refusal S (setPointer s w v) ≡ orElse (refusal S (load s w v)) (reason (breaks S (slot S s) w (slot S v) yields 17 ∷ []))
+  set-tests : (w v : ℕ) → refusal S (setPointer s w v) ≡ firstRefusal (refusal S (load s w v)) (reason (breaks S (slot S s) w (slot S v) yields 17 ∷ []))
   unfolding refusal checks
   set-tests w v = reason-append (checks S (load s w v)) (breaks S (slot S s) w (slot S v) yields 17 ∷ []) refl
 
@@ -49,10 +49,10 @@ module _ (S : Store) (s : ℕ) where
 
 -- set pointer's tests by the parts that they read
 pub set-parts : (S : Store) (s w v : ℕ) → refusal S (setPointer s w v)
-    ≡ orElse (reason (top S s v)) (setRefusal ((kinds S) .declared) ((kinds S) .sizes) ((kinds S) .marks) ((regions S) .names) ((regions S) .parents) ((pages S) .owners) (object S s) (held S s) w (held S v))
+    ≡ firstRefusal (reason (top S s v)) (setRefusal ((kinds S) .declared) ((kinds S) .sizes) ((kinds S) .marks) ((regions S) .names) ((regions S) .parents) ((pages S) .owners) (object S s) (held S s) w (held S v))
 unfolding slot slotAt topFrame
 set-parts S s w v =
-    set-tests S s w v ∙ ap₂ (λ a b. orElse a (reason (b yields 17 ∷ []))) (load-tests S s w v) (breaks-in S s w (held S v))
+    set-tests S s w v ∙ ap₂ (λ a b. firstRefusal a (reason (b yields 17 ∷ []))) (load-tests S s w v) (breaks-in S s w (held S v))
     ∙ else-else (reason (top S s v)) (pointerRefusal ((kinds S) .declared) ((kinds S) .sizes) ((kinds S) .marks) (object S s) (held S s) w) _
 
 set-read : (declared : ℕ) (sizes marks names parents owners heap : List ℕ) (v w x : ℕ) → setRefusal declared sizes marks names parents owners (objectOf heap v) v w x ≡ 0

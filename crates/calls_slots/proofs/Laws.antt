@@ -10,11 +10,11 @@ use Rattle.model.specs.Model.{first, copy, fetch, clear}
 use Rattle.model.specs.Calls.{reason, _yields_}
 use Rattle.outcomes.specs.Store.{Store}
 use Rattle.outcomes.specs.Outcome.{refusal, checks, dead, lacks, lacksBeneath, badLength, oneFrame}
-use Rattle.checks.specs.Checks.{orElse}
+use Rattle.checks.specs.Checks.{firstRefusal}
 use Rattle.checks.specs.Laws.Tests.{top, beneath, one-slot, two-slots, slot-beneath, or-zero}
 
 module _ (S : Store) where
-  pub first-tests : (s r : ℕ) → refusal S (first s r) ≡ orElse (reason (top S s s)) (reason (dead S r yields 2 ∷ []))
+  pub first-tests : (s r : ℕ) → refusal S (first s r) ≡ firstRefusal (reason (top S s s)) (reason (dead S r yields 2 ∷ []))
   unfolding refusal checks
   first-tests s r = one-slot S (dead S r yields 2 ∷ []) s
 

@@ -16,15 +16,15 @@ use Rattle.objects.specs.Laws.Words.{object-header}
 use Rattle.outcomes.specs.Store.{Store, frames, kinds, pages, slot}
 use Rattle.outcomes.specs.Outcome.{Outcome, Accepted, refusal, checks, noWord, isData, allData, writeWord, viewAnswer}
 use Rattle.outcomes.specs.Laws.Steps.{by-effect}
-use Rattle.checks.specs.Checks.{orElse}
+use Rattle.checks.specs.Checks.{firstRefusal}
 use Rattle.checks.specs.Laws.Tests.{top, one-slot, else-next}
 use Rattle.checks.specs.Laws.Words.{held, object, tested, word-read}
 use Rattle.calls_words.specs.Words.{dataRefusal, viewRefusal}
 
 module _ (S : Store) (s : ℕ) where
-  pub get-tests : (w : ℕ) → refusal S (get s w) ≡ orElse (reason (top S s s)) (dataRefusal ((kinds S) .declared) ((kinds S) .sizes) ((kinds S) .marks) (object S s) (held S s) w)
+  pub get-tests : (w : ℕ) → refusal S (get s w) ≡ firstRefusal (reason (top S s s)) (dataRefusal ((kinds S) .declared) ((kinds S) .sizes) ((kinds S) .marks) (object S s) (held S s) w)
   unfolding refusal checks
-  get-tests w = one-slot S (eqb (slot S s) 0 yields 14 ∷ noWord S s w yields 15 ∷ not (isData S s w) yields 16 ∷ []) s ∙ ap (orElse (reason (top S s s))) (tested S s not w)
+  get-tests w = one-slot S (eqb (slot S s) 0 yields 14 ∷ noWord S s w yields 15 ∷ not (isData S s w) yields 16 ∷ []) s ∙ ap (firstRefusal (reason (top S s s))) (tested S s not w)
 
   pub put-tests : (w x : ℕ) → refusal S (put s w x) ≡ refusal S (get s w)
   unfolding refusal checks

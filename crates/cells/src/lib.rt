@@ -3,7 +3,7 @@ ghost use mathlib.Core.Path.{_≡_};
 ghost use mathlib.Core.List.{_∷_};
 ghost use Prim.Native.Nat.{_-_, _<_, _≤_, min};
 ghost use lib.Dec.{eqb};
-ghost use Rattle.lists.specs.Lists.{find, count, upTo};
+ghost use Rattle.lists.specs.Lists.{findOr, countOf, upTo};
 ghost use lib.ListN.{length, getD, set, take, drop, replicate};
 ghost use lib.Seq.{sets};
 
@@ -78,7 +78,7 @@ pub fn least(x: u32, y: u32) -> u32
 
 // The place of the first x among the first n elements, n where there is none. It takes at most n turns, as do the counts: callers keep n small.
 pub fn find(s: &[u32], n: u32, x: u32) -> u32
-    ensures { λ r. ⌜ r ≡ find (λ i. eqb (getD (now (s .entry)) i 0) x) n (upTo n) ⌝ }
+    ensures { λ r. ⌜ r ≡ findOr (λ i. eqb (getD (now (s .entry)) i 0) x) n (upTo n) ⌝ }
 {
     let mut i: u32 = 0;
     while i < n {
@@ -92,7 +92,7 @@ pub fn find(s: &[u32], n: u32, x: u32) -> u32
 
 // How many of the first n elements are x.
 pub fn count(s: &[u32], n: u32, x: u32) -> u32
-    ensures { λ r. ⌜ r ≡ count (λ i. eqb (getD (now (s .entry)) i 0) x) (upTo n) ⌝ }
+    ensures { λ r. ⌜ r ≡ countOf (λ i. eqb (getD (now (s .entry)) i 0) x) (upTo n) ⌝ }
 {
     let mut k: u32 = 0;
     let mut i: u32 = 0;
@@ -114,7 +114,7 @@ fn wide(x: u8) -> u32
 // The same of bytes, where there are n.
 fn count_there(s: &[u8], n: usize, x: u32) -> u32
     requires { ⌜ (n ≤ length (now s)) × (n < 4294967296) ⌝ }
-    ensures { λ r. ⌜ r ≡ count (λ i. eqb (getD (now (s .entry)) i 0) x) (upTo n) ⌝ }
+    ensures { λ r. ⌜ r ≡ countOf (λ i. eqb (getD (now (s .entry)) i 0) x) (upTo n) ⌝ }
 {
     let mut k: u32 = 0;
     let mut i: usize = 0;
@@ -128,7 +128,7 @@ fn count_there(s: &[u8], n: usize, x: u32) -> u32
 }
 
 pub fn count_byte(s: &[u8], n: u32, x: u32) -> u32
-    ensures { λ r. ⌜ r ≡ count (λ i. eqb (getD (now (s .entry)) i 0) x) (upTo n) ⌝ }
+    ensures { λ r. ⌜ r ≡ countOf (λ i. eqb (getD (now (s .entry)) i 0) x) (upTo n) ⌝ }
 {
     if (n as usize) <= s.len() {
         return count_there(s, n as usize, x);

@@ -12,8 +12,8 @@ use Rattle.pages.specs.Pages.{wrongLengthIn}
 use Rattle.objects.specs.Parts.{headerIn}
 
 -- the first number, or the second where the first accepts
-abbrev pub orElse : ℕ → ℕ → ℕ
-orElse g h = pick (eqb g 0) h g
+abbrev pub firstRefusal : ℕ → ℕ → ℕ
+firstRefusal g h = pick (eqb g 0) h g
 
 -- a heap of n words; slots s and t of the top frame
 unfoldable pub topTests : ℕ → ℕ → ℕ → List ℕ → ℕ → ℕ → List (Bool × ℕ)

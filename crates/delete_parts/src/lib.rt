@@ -6,7 +6,7 @@ ghost use Rattle.regions.specs.Regions.{subregionsIn};
 ghost use Rattle.regions.specs.Laws.Steps.{enterings};
 ghost use Rattle.outcomes.specs.Store.{ledIn};
 ghost use Rattle.outcomes.specs.Outcome.{newlyIn};
-ghost use Rattle.checks.specs.Checks.{orElse, regionTests};
+ghost use Rattle.checks.specs.Checks.{firstRefusal, regionTests};
 ghost use Rattle.delete_parts.specs.Delete.{deleteTests};
 
 // Whether some slot of an uncounted frame leads into the region with that tag. The first that does ends the look.
@@ -54,7 +54,7 @@ pub fn delete_refusal<'a>(
     slots: &'a [u32],
     owners: &'a [u8],
 ) -> u32
-    ensures { λ r. ⌜ r ≡ orElse (reason (regionTests made words e)) (reason (deleteTests region (subregionsIn (now (names .entry)) (now (parents .entry)) tag) (getD (now (counts .entry)) e 0) (ledIn standing counted (now (widths .entry)) (now (slots .entry)) (now (owners .entry)) tag))) ⌝ }
+    ensures { λ r. ⌜ r ≡ firstRefusal (reason (regionTests made words e)) (reason (deleteTests region (subregionsIn (now (names .entry)) (now (parents .entry)) tag) (getD (now (counts .entry)) e 0) (ledIn standing counted (now (widths .entry)) (now (slots .entry)) (now (owners .entry)) tag))) ⌝ }
 {
     let g = checks::region_refusal(made, words, e);
     if g != 0 {

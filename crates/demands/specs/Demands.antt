@@ -7,7 +7,7 @@ use mathlib.Core.Bool.{Bool, true}
 use mathlib.Core.List.{List, [], _∷_}
 use Prim.Native.Nat.{ℕ, _+_, _/_, _<_}
 use lib.ListN.{length, getD, drop}
-use Rattle.lists.specs.Lists.{count, All, times}
+use Rattle.lists.specs.Lists.{countOf, All, times}
 use Rattle.model.specs.Model.{Model, Answer, Call, report, delete, audit, gives}
 use Rattle.model.specs.Calls.{makes, fresh, run}
 use Rattle.model.specs.Valid.{Valid}
@@ -17,7 +17,7 @@ use Rattle.outcomes.specs.History.{History, Region, Object, begin, isLive, stor
 use Rattle.outcomes.specs.Shape.{Shaped}
 use Rattle.outcomes.specs.Outcome.{Outcome, MakeOutcome}
 use Rattle.outcomes.specs.Promises.{Total, Refusals, LengthFirst, SameLength, OnlyNamed, KeepsShape, AuditExact, Makes, Sent}
-use Rattle.refinement.specs.Runs.{Event, calls, answers, Run}
+use Rattle.outcomes.specs.Runs.{Event, calls, answers, Run}
 use Rattle.demands.specs.Told.{opening, history}
 
 -- Demand 1. That each call is safe, ends and touches only what it is given is the gate's verdict on functions without a `requires`.
@@ -79,8 +79,8 @@ pub record Shows (h : History) (S : Store) : Type 0 where
   pub counted : h .counted ≡ (begin S) .counted
   pub pages : h .pages ≡ (begin S) .pages
   -- the same regions and objects in any order: as many pass any test
-  pub regions : (f : Region → Bool) → count f (h .regions) ≡ count f ((begin S) .regions)
-  pub objects : (f : Object → Bool) → count f (h .objects) ≡ count f ((begin S) .objects)
+  pub regions : (f : Region → Bool) → countOf f (h .regions) ≡ countOf f ((begin S) .regions)
+  pub objects : (f : Object → Bool) → countOf f (h .objects) ≡ countOf f ((begin S) .objects)
   pub free : (j : ℕ) → times j (h .free) ≡ times j ((begin S) .free)
   pub held : (j : ℕ) → holders h j ≡ holders (begin S) j
 
@@ -95,6 +95,6 @@ StartsAgree = (heap : List ℕ) (a : Answer) (S : Store) → makes (length heap)
 -- Document 01's session and cases, those whose make is refused too: make, given as many words as a row of the table says, and then a run with the row's calls print the row's lines.
 unfoldable pub TableHolds : Type 0
 TableHolds =
-    (k : ℕ) → k < length table → (heap : List ℕ) (a : Answer) (S : Store) → length heap ≡ getD table k document .words → MakeOutcome heap a S
+    (k : ℕ) → k < length table → (heap : List ℕ) (a : Answer) (S : Store) → length heap ≡ getD table k document .lent → MakeOutcome heap a S
     → (es : List Event) (T : Store) → Run S es T → calls es ≡ getD table k document .calls
     → drop (getD table k document .skip) (lines 1 (a ∷ answers es)) ≡ getD table k document .prints

@@ -11,7 +11,7 @@ use Rattle.model.specs.Model.{Call, declare, newRegion, subregion, push, dropFr
 use Rattle.frames.specs.Frames.{slotAt}
 use Rattle.outcomes.specs.Store.{Store, frames}
 use Rattle.outcomes.specs.History.{History, holders}
-use Rattle.refinement.specs.Runs.{Event}
+use Rattle.outcomes.specs.Runs.{Event}
 
 -- what an accepted make of n pages begins: region 1, every page free
 unfoldable pub opening : ℕ → History
@@ -84,8 +84,8 @@ ended h r = record {
 }
 
 -- the value of slot s of the top frame, in the store after the call
-abbrev pub shown : History → Store → ℕ → ℕ
-shown h T s = slotAt (frames T) (length (h .frames) - 1) s
+abbrev pub slotAfter : History → Store → ℕ → ℕ
+slotAfter h T s = slotAt (frames T) (length (h .frames) - 1) s
 
 -- an accepted call that gave the values v and left the store T
 unfoldable pub told : Call → List ℕ → Store → History → History
@@ -95,7 +95,7 @@ told (subregion r) v T h = born h (getD v 0 0) r
 told (push n) v T h = withFrames h (h .frames ++ (n ∷ [])) (h .counted)
 told dropFrame v T h = popped h
 told (handBack s b) v T h = popped h
-told (allocate s r k) v T h = objectMade h r k (shown h T s)
+told (allocate s r k) v T h = objectMade h r k (slotAfter h T s)
 told (first s r) v T h = h
 told (copy s t) v T h = h
 told (fetch b s) v T h = h

@@ -15,7 +15,7 @@ use Rattle.model.specs.Model.{Call, declare, newRegion, subregion, push, dropFr
 use Rattle.outcomes.specs.Store.{Store}
 use Rattle.outcomes.specs.Outcome.{Outcome, answerOf}
 use Rattle.outcomes.specs.Promises.{Sent}
-use Rattle.refinement.specs.Runs.{Event, calls, Run, done, step}
+use Rattle.outcomes.specs.Runs.{Event, calls, Run, done, step}
 use Rattle.store.specs.Dispatch.{numbered, decoded, DispatchedBy, Dispatched}
 use Rattle.script.specs.declared.Line.{Line}
 use Rattle.script.specs.Script.{front, ofClass, grown, scanned}

@@ -12,7 +12,7 @@ use Rattle.state.specs.declared.State.{State}
 use Rattle.state.specs.declared.Reply.{Reply}
 use Rattle.outcomes.specs.Store.{Store}
 use Rattle.outcomes.specs.Outcome.{MakeOutcome, store}
-use Rattle.refinement.specs.Runs.{Event, calls, Run}
+use Rattle.outcomes.specs.Runs.{Event, calls, Run}
 use Rattle.store.specs.Dispatch.{decoded, Dispatched}
 use Rattle.script.specs.declared.Line.{Line}
 use Rattle.script.specs.Script.{grown, scanned}

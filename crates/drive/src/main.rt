@@ -91,7 +91,7 @@ fn counted(calls: u32, call: u32) -> u32 {
 }
 
 // Adds what line k of the script prints to the first `at` bytes of the output, and gives how many are used then.
-fn shown(out: &mut [u8], at: usize, k: u32, call: u32, place: u32, r: Reply) -> usize {
+fn add_printed(out: &mut [u8], at: usize, k: u32, call: u32, place: u32, r: Reply) -> usize {
     match call {
         NOTHING => at,
         NO_CALL => lines::add_bad(out, at, k),
@@ -123,7 +123,7 @@ fn each_line(
         let l = script::scan(x, true);
         let d = called(t, heap, l);
         calls = counted(calls, l.call);
-        used = shown(out, used, k, l.call, calls, d.reply);
+        used = add_printed(out, used, k, l.call, calls, d.reply);
         t = d.state;
         at = next;
     }

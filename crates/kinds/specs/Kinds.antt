@@ -7,7 +7,7 @@ use Prim.Native.Nat.{ℕ, _+_, _-_, _*_, min}
 use lib.Dec.{eqb, ltb, leb}
 use lib.ListN.{length, getD, set}
 use lib.Seq.{sets}
-use Rattle.lists.specs.Lists.{pick, any, every, upTo}
+use Rattle.lists.specs.Lists.{pick, anyOf, every, upTo}
 use Rattle.kinds.specs.declared.Kinds.{Kinds}
 
 -- the kinds listed, of which the state has room for 16
@@ -41,7 +41,7 @@ withKind k ms = record { declared = k .declared + 1; sizes = set (k .sizes) (k .
 
 -- what declare refuses as marks: none, more than 16, or one above 4 (document 01, Declare)
 unfoldable pub wrongMarks : List ℕ → Bool
-wrongMarks ms = eqb (length ms) 0 || ltb 16 (length ms) || any (ltb 4) ms
+wrongMarks ms = eqb (length ms) 0 || ltb 16 (length ms) || anyOf (ltb 4) ms
 
 -- every word of kind n is data
 unfoldable pub allData : Kinds → ℕ → Bool

@@ -5,7 +5,7 @@ ghost use Prim.Native.Nat.{_%_};
 ghost use lib.Dec.{eqb, ltb};
 ghost use lib.ListN.{set};
 ghost use lib.Seq.{sets};
-ghost use Rattle.lists.specs.Lists.{any, every, upTo};
+ghost use Rattle.lists.specs.Lists.{anyOf, every, upTo};
 ghost use Rattle.model.specs.Model.{rule};
 ghost use Rattle.kinds.specs.Kinds.{kindCountIn, sizeIn, markIn, wrongMarks};
 
@@ -41,7 +41,7 @@ pub fn mark_at(marks: &[u8], n: u32, w: u32) -> u32
 
 // Whether a mark is above 4.
 fn above_four(ms: &[u32]) -> bool
-    ensures { λ r. ⌜ r ≡ any (ltb 4) (now (ms .entry)) ⌝ }
+    ensures { λ r. ⌜ r ≡ anyOf (ltb 4) (now (ms .entry)) ⌝ }
 {
     let mut i = 0;
     while i < ms.len() {

@@ -15,9 +15,9 @@ pick false a b = b
 
 module _ {A : Type 0} where
   -- some element passes; all elements pass
-  abbrev pub any : (A → Bool) → List A → Bool
-  any f [] = false
-  any f (x ∷ xs) = f x || any f xs
+  abbrev pub anyOf : (A → Bool) → List A → Bool
+  anyOf f [] = false
+  anyOf f (x ∷ xs) = f x || anyOf f xs
 
   abbrev pub every : (A → Bool) → List A → Bool
   every f [] = true
@@ -29,14 +29,14 @@ module _ {A : Type 0} where
   keep f (x ∷ xs) = let ys = keep f xs in pick (f x) (x ∷ ys) ys
 
   -- the first element that passes, or d
-  abbrev pub find : (A → Bool) → A → List A → A
-  find f d [] = d
-  find f d (x ∷ xs) = pick (f x) x (find f d xs)
+  abbrev pub findOr : (A → Bool) → A → List A → A
+  findOr f d [] = d
+  findOr f d (x ∷ xs) = pick (f x) x (findOr f d xs)
 
   -- f of each element, added up
-  abbrev pub sum : (A → ℕ) → List A → ℕ
-  sum f [] = 0
-  sum f (x ∷ xs) = f x + sum f xs
+  abbrev pub sumOf : (A → ℕ) → List A → ℕ
+  sumOf f [] = 0
+  sumOf f (x ∷ xs) = f x + sumOf f xs
 
   -- two lists are one, element by element
   abbrev pub equal : (A → A → Bool) → List A → List A → Bool
@@ -51,15 +51,15 @@ module _ {A : Type 0} where
   All P (x ∷ xs) = P x × All P xs
 
 -- how many elements pass
-abbrev pub count : {A : Type 0} → (A → Bool) → List A → ℕ
-count f l = sum (λ x. bit (f x)) l
+abbrev pub countOf : {A : Type 0} → (A → Bool) → List A → ℕ
+countOf f l = sumOf (λ x. bit (f x)) l
 
 module _ {A B : Type 0} where
   -- f of the elements at each place of two lists, as far as both reach, added up
-  abbrev pub sum₂ : (A → B → ℕ) → List A → List B → ℕ
-  sum₂ f [] ys = 0
-  sum₂ f (x ∷ xs) [] = 0
-  sum₂ f (x ∷ xs) (y ∷ ys) = f x y + sum₂ f xs ys
+  abbrev pub sumOf₂ : (A → B → ℕ) → List A → List B → ℕ
+  sumOf₂ f [] ys = 0
+  sumOf₂ f (x ∷ xs) [] = 0
+  sumOf₂ f (x ∷ xs) (y ∷ ys) = f x y + sumOf₂ f xs ys
 
   -- P of the elements at each place, as far as both lists reach
   abbrev pub All₂ : (A → B → Type 0) → List A → List B → Type 0
@@ -83,7 +83,7 @@ upTo n = from 0 n
 
 -- how often n stands in a list, and whether it does
 abbrev pub times : ℕ → List ℕ → ℕ
-times n l = count (λ x. eqb x n) l
+times n l = countOf (λ x. eqb x n) l
 
 abbrev pub among : ℕ → List ℕ → Bool
-among n l = any (λ x. eqb x n) l
+among n l = anyOf (λ x. eqb x n) l

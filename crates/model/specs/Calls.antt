@@ -5,9 +5,9 @@ use mathlib.Core.List.{List, [], _∷_, _++_, map}
 use Prim.Native.Nat.{ℕ, zero, suc, _+_, _-_, _%_}
 use lib.Dec.{eqb, ltb, leb}
 use lib.ListN.{length, getD, set, take, replicate}
-use Rattle.lists.specs.Lists.{bit, pick, any, every, keep}
+use Rattle.lists.specs.Lists.{bit, pick, anyOf, every, keep}
 use Rattle.model.specs.Model.{Call, declare, newRegion, subregion, push, dropFrame, handBack, allocate, first, copy, fetch, clear, load, setPointer, put, get, view, same, about, report, totals, audit, delete}
-use Rattle.model.specs.Model.{Region, Object, Model, Answer, four, gives, refusedBy, called, region, marks, livesIn, homeIn, parentIn, last, top, beneath, slot, held, heldMarks, markAt, inFrames, fromObject, inWords, outside, stored, subregions, allowed}
+use Rattle.model.specs.Model.{Region, Object, Model, Answer, four, gives, refusedBy, called, region, marks, livesIn, homeIn, parentIn, topPlace, top, beneath, slot, inSlot, slotMarks, markAt, inFrames, fromObject, inWords, outside, stored, subregions, allowed}
 
 -- ---- Refusals (document 01, The calls). 21 is not among them: each call of a session gets the store's own heap
 
@@ -36,7 +36,7 @@ abbrev pub null : Model → ℕ → Bool
 null L s = eqb (slot L s) 0
 
 abbrev pub noWord : Model → ℕ → ℕ → Bool
-noWord L s w = leb (length ((held L s) .words)) w
+noWord L s w = leb (length ((inSlot L s) .words)) w
 
 -- no live region has the name r
 abbrev pub dead : Model → ℕ → Bool
@@ -51,7 +51,7 @@ fits g n = leb n (g .room)
 
 -- the tests of each call, in document 01's order
 unfoldable pub checks : Model → Call → List (Bool × ℕ)
-checks L (declare ms) = (eqb (length ms) 0 || ltb 16 (length ms) || any (ltb 4) ms) yields 11 ∷ leb 16 (length (L .kinds)) yields 10 ∷ []
+checks L (declare ms) = (eqb (length ms) 0 || ltb 16 (length ms) || anyOf (ltb 4) ms) yields 11 ∷ leb 16 (length (L .kinds)) yields 10 ∷ []
 checks L newRegion = leb 64 (length (L .regions)) yields 4 ∷ leb 1000000 (L .given) yields 5 ∷ []
 checks L (subregion r) = dead L r yields 2 ∷ leb 16 ((region (L .regions) r) .level) yields 20 ∷ leb 64 (length (L .regions)) yields 4 ∷ leb 1000000 (L .given) yields 5 ∷ []
 checks L (push n) = (eqb n 0 || ltb 8 n) yields 8 ∷ leb 32 (length (L .frames)) yields 7 ∷ []
@@ -67,10 +67,10 @@ checks L (clear s) = noFrame L yields 6 ∷ lacks (top L) s yields 9 ∷ []
 checks L (load s w t) = noFrame L yields 6 ∷ (lacks (top L) s || lacks (top L) t) yields 9 ∷ null L s yields 14 ∷ noWord L s w yields 15 ∷ eqb (markAt L s w) 0 yields 16 ∷ []
 checks L (setPointer s w v) =
     noFrame L yields 6 ∷ (lacks (top L) s || lacks (top L) v) yields 9 ∷ null L s yields 14 ∷ noWord L s w yields 15 ∷ eqb (markAt L s w) 0 yields 16
-    ∷ not (allowed (parentIn L) (homeIn L) ((held L s) .home) (markAt L s w) (slot L v)) yields 17 ∷ []
+    ∷ not (allowed (parentIn L) (homeIn L) ((inSlot L s) .home) (markAt L s w) (slot L v)) yields 17 ∷ []
 checks L (put s w x) = noFrame L yields 6 ∷ lacks (top L) s yields 9 ∷ null L s yields 14 ∷ noWord L s w yields 15 ∷ not (eqb (markAt L s w) 0) yields 16 ∷ []
 checks L (get s w) = noFrame L yields 6 ∷ lacks (top L) s yields 9 ∷ null L s yields 14 ∷ noWord L s w yields 15 ∷ not (eqb (markAt L s w) 0) yields 16 ∷ []
-checks L (view s) = noFrame L yields 6 ∷ lacks (top L) s yields 9 ∷ null L s yields 14 ∷ not (every (eqb 0) (heldMarks L s)) yields 16 ∷ []
+checks L (view s) = noFrame L yields 6 ∷ lacks (top L) s yields 9 ∷ null L s yields 14 ∷ not (every (eqb 0) (slotMarks L s)) yields 16 ∷ []
 checks L (same s t) = noFrame L yields 6 ∷ (lacks (top L) s || lacks (top L) t) yields 9 ∷ []
 checks L (about s) = noFrame L yields 6 ∷ lacks (top L) s yields 9 ∷ []
 checks L (report r) = dead L r yields 2 ∷ []
@@ -88,8 +88,8 @@ reply L (declare ms) = gives ((length (L .kinds) + 1) ∷ [])
 reply L newRegion = gives ((L .given + 1) ∷ [])
 reply L (subregion r) = gives ((L .given + 1) ∷ [])
 reply L (push n) = gives ((length (L .frames) + 1) ∷ [])
-reply L dropFrame = gives (last (L .frames) ∷ [])
-reply L (handBack s b) = gives (last (L .frames) ∷ [])
+reply L dropFrame = gives (topPlace (L .frames) ∷ [])
+reply L (handBack s b) = gives (topPlace (L .frames) ∷ [])
 reply L (allocate s r k) = gives []
 reply L (first s r) = gives []
 reply L (copy s t) = gives []
@@ -98,10 +98,10 @@ reply L (clear s) = gives []
 reply L (load s w t) = gives []
 reply L (setPointer s w v) = gives []
 reply L (put s w x) = gives []
-reply L (get s w) = gives (getD ((held L s) .words) w 0 ∷ [])
-reply L (view s) = record { refusal = 0; values = four []; part = (held L s) .words }
+reply L (get s w) = gives (getD ((inSlot L s) .words) w 0 ∷ [])
+reply L (view s) = record { refusal = 0; values = four []; part = (inSlot L s) .words }
 reply L (same s t) = gives (bit (eqb (slot L s) (slot L t)) ∷ [])
-reply L (about s) = gives ((held L s) .home ∷ (held L s) .kind ∷ [])
+reply L (about s) = gives ((inSlot L s) .home ∷ (inSlot L s) .kind ∷ [])
 reply L (report r) = gives (stored L r ∷ outside L r ∷ (region (L .regions) r) .pages ∷ subregions L r ∷ [])
 reply L totals = gives (L .free ∷ length (L .regions) ∷ length (L .frames) ∷ L .counted ∷ [])
 reply L audit = gives (1 ∷ [])
@@ -120,12 +120,12 @@ withObjects L os = record { free = L .free; kinds = L .kinds; regions = L .regio
 
 -- slot s of the top frame gets p
 unfoldable pub fillSlot : Model → ℕ → ℕ → Model
-fillSlot L s p = withFrames L (set (L .frames) (last (L .frames)) (set (top L) s p)) (L .counted)
+fillSlot L s p = withFrames L (set (L .frames) (topPlace (L .frames)) (set (top L) s p)) (L .counted)
 
 -- the top frame goes and n stay: the new top is frame n - 1, counted if n is at most m, and m then falls by one; with no frame left m was 0 (document 01, The store)
 unfoldable pub popFrame : Model → Model
 popFrame L =
-    let n = last (L .frames) in
+    let n = topPlace (L .frames) in
     withFrames L (take n (L .frames)) (pick (leb n (L .counted)) (L .counted - 1) (L .counted))
 
 -- object p becomes o; null stays
@@ -138,7 +138,7 @@ withWord o w x = record { home = o .home; kind = o .kind; words = set (o .words)
 
 -- word w of the object in slot s gets x
 unfoldable pub writeWord : Model → ℕ → ℕ → ℕ → Model
-writeWord L s w x = withObjects L (replaced (L .objects) (slot L s) (withWord (held L s) w x))
+writeWord L s w x = withObjects L (replaced (L .objects) (slot L s) (withWord (inSlot L s) w x))
 
 -- a region below region r, or below none, with the next name
 unfoldable pub addRegion : Model → ℕ → ℕ → Model
@@ -189,7 +189,7 @@ removeRegion L r = record {
   kinds = L .kinds;
   regions = others (L .regions) r;
   frames = L .frames;
-  counted = last (L .frames);
+  counted = topPlace (L .frames);
   given = L .given;
   objects = L .objects;
 }
@@ -206,7 +206,7 @@ accepted L (first s r) = fillSlot L s ((region (L .regions) r) .oldest)
 accepted L (copy s t) = fillSlot L t (slot L s)
 accepted L (fetch b s) = fillSlot L s (getD (beneath L) b 0)
 accepted L (clear s) = fillSlot L s 0
-accepted L (load s w t) = fillSlot L t (getD ((held L s) .words) w 0)
+accepted L (load s w t) = fillSlot L t (getD ((inSlot L s) .words) w 0)
 accepted L (setPointer s w v) = writeWord L s w (slot L v)
 accepted L (put s w x) = writeWord L s w x
 accepted L (get s w) = L

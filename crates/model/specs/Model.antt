@@ -6,7 +6,7 @@ use mathlib.Core.List.{List, [], _∷_}
 use Prim.Native.Nat.{ℕ, _+_, _-_}
 use lib.Dec.{eqb}
 use lib.ListN.{length, getD, take}
-use Rattle.lists.specs.Lists.{bit, pick, any, find, sum, sum₂, count}
+use Rattle.lists.specs.Lists.{bit, pick, anyOf, findOr, sumOf, sumOf₂, countOf}
 
 -- A live region: the region directly above it (0: none), its pages, the words left in the newest one and its oldest object (0: none).
 pub record Region : Type 0 where
@@ -88,10 +88,10 @@ called r g = eqb (g .name) r
 
 -- whether a region of the list has the name r, that region, and the name of the region above it
 abbrev pub live : List Region → ℕ → Bool
-live gs r = any (called r) gs
+live gs r = anyOf (called r) gs
 
 abbrev pub region : List Region → ℕ → Region
-region gs r = find (called r) noRegion gs
+region gs r = findOr (called r) noRegion gs
 
 abbrev pub parentOf : List Region → ℕ → ℕ
 parentOf gs r = (region gs r) .parent
@@ -117,12 +117,12 @@ abbrev pub parentIn : Model → ℕ → ℕ
 parentIn L = parentOf (L .regions)
 
 -- the place of the top frame, which is also the number of frames that stand without it
-abbrev pub last : List (List ℕ) → ℕ
-last fs = length fs - 1
+abbrev pub topPlace : List (List ℕ) → ℕ
+topPlace fs = length fs - 1
 
 -- the top frame, and the one beneath it
 abbrev pub top : Model → List ℕ
-top L = getD (L .frames) (last (L .frames)) []
+top L = getD (L .frames) (topPlace (L .frames)) []
 
 abbrev pub beneath : Model → List ℕ
 beneath L = getD (L .frames) (length (L .frames) - 2) []
@@ -131,14 +131,14 @@ beneath L = getD (L .frames) (length (L .frames) - 2) []
 abbrev pub slot : Model → ℕ → ℕ
 slot L s = getD (top L) s 0
 
-abbrev pub held : Model → ℕ → Object
-held L s = object (L .objects) (slot L s)
+abbrev pub inSlot : Model → ℕ → Object
+inSlot L s = object (L .objects) (slot L s)
 
-abbrev pub heldMarks : Model → ℕ → List ℕ
-heldMarks L s = marks (L .kinds) ((held L s) .kind)
+abbrev pub slotMarks : Model → ℕ → List ℕ
+slotMarks L s = marks (L .kinds) ((inSlot L s) .kind)
 
 abbrev pub markAt : Model → ℕ → ℕ → ℕ
-markAt L s w = getD (heldMarks L s) w 0
+markAt L s w = getD (slotMarks L s) w 0
 
 -- ---- Outside pointers of region r (document 01, The store). `lives` tells the live regions, `home` the region that a pointer leads into
 
@@ -148,7 +148,7 @@ into home r p = bit (eqb (home p) r)
 
 -- how many slots of the frames fs lead into r
 unfoldable pub inFrames : (ℕ → ℕ) → ℕ → List (List ℕ) → ℕ
-inFrames home r fs = sum (sum (into home r)) fs
+inFrames home r fs = sumOf (sumOf (into home r)) fs
 
 -- a word p with mark k: only words marked 1 are counted
 abbrev pub freeInto : (ℕ → ℕ) → ℕ → ℕ → ℕ → ℕ
@@ -156,25 +156,25 @@ freeInto home r k p = pick (eqb k 1) (into home r p) 0
 
 -- how many words of object o lead into r: none if it is dead or of region r itself
 unfoldable pub fromObject : (ℕ → Bool) → (ℕ → ℕ) → List (List ℕ) → ℕ → Object → ℕ
-fromObject lives home ks r o = pick (lives (o .home) && not (eqb (o .home) r)) (sum₂ (freeInto home r) (marks ks (o .kind)) (o .words)) 0
+fromObject lives home ks r o = pick (lives (o .home) && not (eqb (o .home) r)) (sumOf₂ (freeInto home r) (marks ks (o .kind)) (o .words)) 0
 
 unfoldable pub inWords : (ℕ → Bool) → (ℕ → ℕ) → List (List ℕ) → List Object → ℕ → ℕ
-inWords lives home ks os r = sum (fromObject lives home ks r) os
+inWords lives home ks os r = sumOf (fromObject lives home ks r) os
 
-abbrev pub words : Model → ℕ → ℕ
-words L r = inWords (livesIn L) (homeIn L) (L .kinds) (L .objects) r
+abbrev pub wordPointers : Model → ℕ → ℕ
+wordPointers L r = inWords (livesIn L) (homeIn L) (L .kinds) (L .objects) r
 
 -- all outside pointers: in words and in every frame
 unfoldable pub outside : Model → ℕ → ℕ
-outside L r = words L r + inFrames (homeIn L) r (L .frames)
+outside L r = wordPointers L r + inFrames (homeIn L) r (L .frames)
 
 -- the stored count: in words and in the counted frames
 unfoldable pub stored : Model → ℕ → ℕ
-stored L r = words L r + inFrames (homeIn L) r (take (L .counted) (L .frames))
+stored L r = wordPointers L r + inFrames (homeIn L) r (take (L .counted) (L .frames))
 
 -- the live regions directly below r
 abbrev pub subregions : Model → ℕ → ℕ
-subregions L r = count (λ g. eqb (g .parent) r) (L .regions)
+subregions L r = countOf (λ g. eqb (g .parent) r) (L .regions)
 
 -- ---- Marks (document 01, The store)
 

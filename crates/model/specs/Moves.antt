@@ -4,9 +4,9 @@ use mathlib.Core.List.{List}
 use Prim.Native.Nat.{ℕ, zero, suc}
 use lib.Dec.{eqb}
 use lib.ListN.{getD, take, drop}
-use Rattle.lists.specs.Lists.{pick, sum, sum₂}
+use Rattle.lists.specs.Lists.{pick, sumOf, sumOf₂}
 use Rattle.model.specs.Model.{Model, Call, declare, newRegion, subregion, push, dropFrame, handBack, allocate, first, copy, fetch, clear, load, setPointer, put, get, view, same, about, report, totals, audit, delete}
-use Rattle.model.specs.Model.{homeIn, last, slot, held, markAt, marks, inFrames, freeInto}
+use Rattle.model.specs.Model.{homeIn, topPlace, slot, inSlot, markAt, marks, inFrames, freeInto}
 use Rattle.model.specs.Calls.{popFrame}
 
 -- of the lowest m frames, those above the lowest k
@@ -19,15 +19,15 @@ uncounted L = between ((popFrame L) .counted) (L .counted) (L .frames)
 
 -- the frames that an accepted delete brings into the count: all above the lowest m but the top one
 unfoldable pub newly : Model → List (List ℕ)
-newly L = between (L .counted) (last (L .frames)) (L .frames)
+newly L = between (L .counted) (topPlace (L .frames)) (L .frames)
 
 -- 1 if word w of the object in slot s counts in region r while it holds x: it is marked 1, its object is of another region, and x leads into r
 unfoldable pub weighs : Model → ℕ → ℕ → ℕ → ℕ → ℕ
-weighs L s w r x = pick (eqb ((held L s) .home) r) 0 (freeInto (homeIn L) r (markAt L s w) x)
+weighs L s w r x = pick (eqb ((inSlot L s) .home) r) 0 (freeInto (homeIn L) r (markAt L s w) x)
 
 -- the words of the objects of region q that count in region r
 unfoldable pub fromRegion : Model → ℕ → ℕ → ℕ
-fromRegion L q r = sum (λ o. pick (eqb (o .home) q) (sum₂ (freeInto (homeIn L) r) (marks (L .kinds) (o .kind)) (o .words)) 0) (L .objects)
+fromRegion L q r = sumOf (λ o. pick (eqb (o .home) q) (sumOf₂ (freeInto (homeIn L) r) (marks (L .kinds) (o .kind)) (o .words)) 0) (L .objects)
 
 -- (what enters, what leaves) the stored count of region r by an accepted call
 unfoldable pub moves : Model → Call → ℕ → ℕ × ℕ
@@ -43,7 +43,7 @@ moves L (copy s t) r = (0, 0)
 moves L (fetch b s) r = (0, 0)
 moves L (clear s) r = (0, 0)
 moves L (load s w t) r = (0, 0)
-moves L (setPointer s w v) r = (weighs L s w r (slot L v), weighs L s w r (getD ((held L s) .words) w 0))
+moves L (setPointer s w v) r = (weighs L s w r (slot L v), weighs L s w r (getD ((inSlot L s) .words) w 0))
 moves L (put s w x) r = (0, 0)
 moves L (get s w) r = (0, 0)
 moves L (view s) r = (0, 0)

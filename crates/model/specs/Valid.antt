@@ -25,9 +25,9 @@ pub record ValidNames (gs : List Region) (given : ℕ) : Type 0 where
   pub many : length gs ≤ 64
   pub distinct : Distinct gs
   pub named : All (λ g. 1 ≤ g .name) gs
-  pub past : All (λ g. g .name ≤ given) gs
+  pub namesGiven : All (λ g. g .name ≤ given) gs
   pub last : given ≤ 1000000
-  pub one : live gs 1 ≡ true
+  pub permanent : live gs 1 ≡ true
   pub root : parentOf gs 1 ≡ 0
 
 -- the level of region r, 0 for none
@@ -55,10 +55,10 @@ fine lives parent home h k p = eqb k 0 || (known lives home p && allowed parent 
 
 -- An object's region was given its name, so that no later region takes it over. Its kind was declared, it has as many words as that has marks, and they are fine while its region lives.
 pub record ValidObject (lives : ℕ → Bool) (parent home : ℕ → ℕ) (ks : List (List ℕ)) (given : ℕ) (o : Object) : Type 0 where
-  pub past : o .home ≤ given
+  pub homeGiven : o .home ≤ given
   pub kind : (1 ≤ o .kind) × (o .kind ≤ length ks)
   pub sized : length (o .words) ≡ length (marks ks (o .kind))
-  pub marked : lives (o .home) ≡ true → All₂ (λ k p. fine lives parent home (o .home) k p ≡ true) (marks ks (o .kind)) (o .words)
+  pub fineWords : lives (o .home) ≡ true → All₂ (λ k p. fine lives parent home (o .home) k p ≡ true) (marks ks (o .kind)) (o .words)
 
 -- m is below the number of frames, or 0 with none; at most 32 frames, each of 1 to 8 slots; every slot is known
 pub record ValidFrames (lives : ℕ → Bool) (home : ℕ → ℕ) (fs : List (List ℕ)) (m : ℕ) : Type 0 where

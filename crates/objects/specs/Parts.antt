@@ -26,5 +26,5 @@ unfoldable pub fitting : ℕ → List ℕ → List ℕ → ℕ → ℕ
 fitting declared sizes object n = let s = sizeIn declared sizes (headerIn object) in pick (leb (1 + s) n) s 0
 
 -- what those of its first n words hold that are marked 1
-unfoldable pub marked : List ℕ → List ℕ → ℕ → List ℕ
-marked marks object n = map (wordIn object) (keep (λ w. eqb (markIn marks (headerIn object) w) 1) (upTo n))
+unfoldable pub freeWordsIn : List ℕ → List ℕ → ℕ → List ℕ
+freeWordsIn marks object n = map (wordIn object) (keep (λ w. eqb (markIn marks (headerIn object) w) 1) (upTo n))

@@ -6,7 +6,7 @@ ghost use lib.ListN.{set};
 ghost use Rattle.kinds.specs.Kinds.{kindsWith, sizeIn, markIn};
 ghost use Rattle.regions.specs.Laws.Steps.{leavings};
 ghost use Rattle.objects.specs.Objects.{freeWordsTo, outOf};
-ghost use Rattle.objects.specs.Parts.{partAt, objectOf, headerIn, wordIn, fitting, marked};
+ghost use Rattle.objects.specs.Parts.{partAt, objectOf, headerIn, wordIn, fitting, freeWordsIn};
 
 // The part that begins at place `at`: 17 words, as far as the heap goes.
 pub fn part_at(heap: &[u32], at: usize) -> &[u32]
@@ -77,7 +77,7 @@ fn leave_word(owners: &[u8], counts: &mut [u32], own: u32, v: u32)
 
 // The counts without those of an object's first n words that are marked 1.
 fn leave_words(marks: &[u8], object: &[u32], n: u32, owners: &[u8], counts: &mut [u32], own: u32)
-    ensures { λ _. ⌜ now (counts .exit) ≡ leavings (now (counts .entry)) (outOf (now (owners .entry)) own (marked (now (marks .entry)) (now (object .entry)) n)) ⌝ }
+    ensures { λ _. ⌜ now (counts .exit) ≡ leavings (now (counts .entry)) (outOf (now (owners .entry)) own (freeWordsIn (now (marks .entry)) (now (object .entry)) n)) ⌝ }
 {
     let mut w: u32 = 0;
     while w < n {

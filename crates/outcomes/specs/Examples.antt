@@ -86,7 +86,7 @@ abbrev pub grown : Store
 grown = withRegions small (withRegion (regions small) 1 0 1)
 
 -- a memory, and the numbers of Sound's clauses that it breaks, from 0 in the order of the fields:
--- 0 counts, 1 slots, 2 words, 3 held, 4 made, 5 declared, 6 sizes, 7 marks, 8 standing, 9 widths, 10 levels, 11 given, 12 counted, 13 heapLength, 14 distinct, 15 past, 16 one, 17 parents, 18 filling, 19 newest, 20 oldest
+-- 0 counts, 1 slots, 2 words, 3 held, 4 made, 5 declared, 6 sizes, 7 marks, 8 standing, 9 widths, 10 levels, 11 given, 12 counted, 13 heapLength, 14 distinct, 15 namesGiven, 16 permanent, 17 parents, 18 filling, 19 newest, 20 oldest
 pub record Example : Type 0 where
   pub memory : Store
   pub breaks : List ℕ

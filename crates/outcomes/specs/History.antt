@@ -6,7 +6,7 @@ use mathlib.Core.List.{List, map}
 use Prim.Native.Nat.{ℕ, suc, _+_}
 use lib.Dec.{eqb, leb}
 use lib.ListN.{length, getD}
-use Rattle.lists.specs.Lists.{pick, any, every, keep, find, sum, count, joined, upTo, times}
+use Rattle.lists.specs.Lists.{pick, anyOf, every, keep, findOr, sumOf, countOf, joined, upTo, times}
 use Rattle.model.specs.Model.{marks, rule}
 use Rattle.frames.specs.Frames.{frameCount, widthAt, slotAt}
 use Rattle.kinds.specs.Kinds.{kindCount, sizeOf, markAt}
@@ -82,10 +82,10 @@ begin S = record {
 -- ---- pointers: slots of every frame, and the words of live objects that are no data
 
 abbrev pub isLive : History → ℕ → Bool
-isLive h r = any (λ g. eqb (g .name) r) (h .regions)
+isLive h r = anyOf (λ g. eqb (g .name) r) (h .regions)
 
 abbrev pub parentOf : History → ℕ → ℕ
-parentOf h r = (find (λ g. eqb (g .name) r) (record { name = 0; parent = 0 }) (h .regions)) .parent
+parentOf h r = (findOr (λ g. eqb (g .name) r) (record { name = 0; parent = 0 }) (h .regions)) .parent
 
 -- the values of the slots of frame i
 unfoldable pub slotsOf : History → Store → ℕ → List ℕ
@@ -106,35 +106,35 @@ abbrev pub at : ℕ → Object → Bool
 at v o = eqb (o .place + 1) v
 
 unfoldable pub leads : History → ℕ → Bool
-leads h v = any (at v) (h .objects)
+leads h v = anyOf (at v) (h .objects)
 
 -- the region of that object by name, 0 where the pointer leads nowhere
 unfoldable pub homeOf : History → ℕ → ℕ
-homeOf h v = (find (at v) (record { place = 0; kind = 0; home = 0 }) (h .objects)) .home
+homeOf h v = (findOr (at v) (record { place = 0; kind = 0; home = 0 }) (h .objects)) .home
 
 abbrev pub into : History → ℕ → ℕ → Bool
 into h r v = eqb (homeOf h v) r
 
 -- a region's outside pointers: slots, and words marked 1 of objects of other regions (document 01, The store)
 unfoldable pub slotsLeadingTo : History → Store → ℕ → ℕ → ℕ
-slotsLeadingTo h S r i = count (into h r) (slotsOf h S i)
+slotsLeadingTo h S r i = countOf (into h r) (slotsOf h S i)
 
 unfoldable pub wordsLeadingTo : History → Store → ℕ → Object → ℕ
-wordsLeadingTo h S r o = pick (eqb (o .home) r) 0 (count (λ w. eqb (w .mark) 1 && into h r (w .value)) (pointersOf h S o))
+wordsLeadingTo h S r o = pick (eqb (o .home) r) 0 (countOf (λ w. eqb (w .mark) 1 && into h r (w .value)) (pointersOf h S o))
 
 unfoldable pub outside : History → Store → ℕ → ℕ
-outside h S r = sum (slotsLeadingTo h S r) (upTo (length (h .frames))) + sum (wordsLeadingTo h S r) (h .objects)
+outside h S r = sumOf (slotsLeadingTo h S r) (upTo (length (h .frames))) + sumOf (wordsLeadingTo h S r) (h .objects)
 
 -- those in uncounted frames: all frames above the lowest m
 unfoldable pub uncountedInto : History → Store → ℕ → ℕ
-uncountedInto h S r = sum (λ i. pick (leb (h .counted) i) (slotsLeadingTo h S r i) 0) (upTo (length (h .frames)))
+uncountedInto h S r = sumOf (λ i. pick (leb (h .counted) i) (slotsLeadingTo h S r i) 0) (upTo (length (h .frames)))
 
 -- the stored count of the region named r, at the entry that has that name; 0 where none has
 unfoldable pub storedCount : Store → ℕ → ℕ
 storedCount S r = countAt (regions S) (entryOf (regions S) r)
 
 unfoldable pub subregions : History → ℕ → ℕ
-subregions h r = count (λ g. eqb (g .parent) r) (h .regions)
+subregions h r = countOf (λ g. eqb (g .parent) r) (h .regions)
 
 -- ---- demand 3's statements on counts, pointers and pages
 

@@ -5,4 +5,5 @@ pub mod Outcome
 pub mod Shape
 pub mod Examples
 pub mod Promises
+pub mod Runs
 pub mod Laws

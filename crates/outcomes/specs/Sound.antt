@@ -6,7 +6,7 @@ use mathlib.Core.List.{map}
 use Prim.Native.Nat.{ℕ, zero, suc, _+_, _-_, _*_}
 use lib.Dec.{eqb, ltb, leb}
 use lib.ListN.{length, getD}
-use Rattle.lists.specs.Lists.{every, sum, upTo, times, among}
+use Rattle.lists.specs.Lists.{every, sumOf, upTo, times, among}
 use Rattle.kinds.specs.Kinds.{sizeOf}
 use Rattle.regions.specs.Regions.{nameAt, parentAt, levelAt, newestAt, oldestAt}
 use Rattle.pages.specs.Pages.{pageCount, ownerAt}
@@ -20,7 +20,7 @@ within a b n = leb a n && leb n b
 
 -- the objects met on a held page take just the words that the state has as taken
 unfoldable pub filled : Store → Holding → Bool
-filled S t = eqb (sum (λ p. 1 + sizeOf (kinds S) (getD (S .heap) p 0)) (headersOn (kinds S) (S .heap) (pages S) (t .page))) (getD ((pages S) .taken) (t .page) 0)
+filled S t = eqb (sumOf (λ p. 1 + sizeOf (kinds S) (getD (S .heap) p 0)) (headersOn (kinds S) (S .heap) (pages S) (t .page))) (getD ((pages S) .taken) (t .page) 0)
 
 -- region entry i: none above and level 1; or, for another than region 1, one above that lives, at one level less
 unfoldable pub placed : Store → ℕ → Bool
@@ -60,8 +60,8 @@ pub record Sound (S : Store) : Type 0 where
   pub heapLength : eqb (length (S .heap)) (64 * (pages S) .made) ≡ true
   -- names: no two the same, none that was not given, and region 1 lives
   pub distinct : every (λ i. eqb (times (nameAt (regions S) i) (map (nameAt (regions S)) (entries S))) 1) (entries S) ≡ true
-  pub past : every (λ i. leb (nameAt (regions S) i) ((regions S) .given)) (entries S) ≡ true
-  pub one : among 1 (map (nameAt (regions S)) (entries S)) ≡ true
+  pub namesGiven : every (λ i. leb (nameAt (regions S) i) ((regions S) .given)) (entries S) ≡ true
+  pub permanent : among 1 (map (nameAt (regions S)) (entries S)) ≡ true
   -- the tree of regions: `placed`, of each
   pub parents : every (placed S) (entries S) ≡ true
   -- no gap on a held page: `filled`, of each

@@ -6,7 +6,7 @@ use mathlib.Core.List.{List, map}
 use Prim.Native.Nat.{ℕ, _+_, _-_, _%_}
 use lib.Dec.{eqb, leb}
 use lib.ListN.{getD}
-use Rattle.lists.specs.Lists.{sum, any, from, upTo, times, among}
+use Rattle.lists.specs.Lists.{sumOf, anyOf, from, upTo, times, among}
 use Rattle.model.specs.Model.{rule}
 use Rattle.frames.specs.declared.Frames.{Frames}
 use Rattle.frames.specs.Frames.{frameCountIn, topFrame, widthIn, slotIn, slotAt}
@@ -52,7 +52,7 @@ uncountedIn standing counted = from counted (frameCountIn standing - counted)
 
 -- how many slots of the uncounted frames lead into the region with tag t
 unfoldable pub slotsBeyondIn : ℕ → ℕ → List ℕ → List ℕ → List ℕ → ℕ → ℕ
-slotsBeyondIn standing counted widths slots owners t = sum (λ i. times t (targetsIn widths slots owners i)) (uncountedIn standing counted)
+slotsBeyondIn standing counted widths slots owners t = sumOf (λ i. times t (targetsIn widths slots owners i)) (uncountedIn standing counted)
 
 unfoldable pub slotsBeyond : Store → ℕ → ℕ
 slotsBeyond S t = let f = frames S in slotsBeyondIn (f .standing) (f .counted) (f .widths) (f .slots) ((pages S) .owners) t
@@ -64,7 +64,7 @@ outsideOf S i = (countAt (regions S) i + slotsBeyond S (i + 1)) % 4294967296
 
 -- some slot of an uncounted frame leads into the region with tag t: the look of Delete
 unfoldable pub ledIn : ℕ → ℕ → List ℕ → List ℕ → List ℕ → ℕ → Bool
-ledIn standing counted widths slots owners t = any (λ i. among t (targetsIn widths slots owners i)) (uncountedIn standing counted)
+ledIn standing counted widths slots owners t = anyOf (λ i. among t (targetsIn widths slots owners i)) (uncountedIn standing counted)
 
 unfoldable pub ledInto : Store → ℕ → Bool
 ledInto S t = let f = frames S in ledIn (f .standing) (f .counted) (f .widths) (f .slots) ((pages S) .owners) t

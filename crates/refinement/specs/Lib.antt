@@ -1,4 +1,2 @@
 pub mod Represents
-pub mod Runs
-pub mod Rebuild
 pub mod Laws

@@ -9,7 +9,7 @@ use mathlib.Core.List.{List, [], _∷_}
 use Prim.Native.Nat.{ℕ, zero, suc, _+_, _-_, _*_, _/_, _≤_, _<_}
 use lib.Dec.{eqb}
 use lib.ListN.{length, getD}
-use Rattle.lists.specs.Lists.{pick, sum, from, upTo}
+use Rattle.lists.specs.Lists.{pick, sumOf, from, upTo}
 use Rattle.model.specs.Model.{Model, Region, Object, object, region, marks, livesIn, homeIn, stored}
 use Rattle.frames.specs.declared.Frames.{Frames}
 use Rattle.frames.specs.Frames.{widthAt, slotAt}
@@ -25,8 +25,8 @@ use Rattle.outcomes.specs.Store.{Store, frames, kinds, regions, pages}
 abbrev pub spot : List ℕ → ℕ → ℕ
 spot sp p = getD (0 ∷ sp) p 0
 
-abbrev pub image : List ℕ → ℕ → ℕ → ℕ
-image sp k x = pick (eqb k 0) x (spot sp x)
+abbrev pub imageOf : List ℕ → ℕ → ℕ → ℕ
+imageOf sp k x = pick (eqb k 0) x (spot sp x)
 
 -- object p is one of a live region
 abbrev pub Alive : Model → ℕ → Type 0
@@ -54,7 +54,7 @@ pub record KindsAgree (ks : List (List ℕ)) (k : Kinds) : Type 0 where
   pub declared : k .declared ≡ length ks
   pub sizes : (n : ℕ) → sizeOf k n ≡ length (marks ks n)
   pub few : (n : ℕ) → n < length ks → getD (k .sizes) n 0 ≤ 16
-  pub marked : (n w : ℕ) → w < length (marks ks n) → markAt k n w ≡ getD (marks ks n) w 0
+  pub marksAgree : (n w : ℕ) → w < length (marks ks n) → markAt k n w ≡ getD (marks ks n) w 0
 
 -- the entry of a live region
 pub record EntryAgrees (sp : List ℕ) (r : Region) (g : Regions) (i : ℕ) : Type 0 where
@@ -65,7 +65,7 @@ pub record EntryAgrees (sp : List ℕ) (r : Region) (g : Regions) (i : ℕ) : Ty
 -- `rows`: the entries in use are the live regions, each once, in any order: whatever is added up over the one comes to the same over the other
 pub record RegionsAgree (L : Model) (sp : List ℕ) (g : Regions) : Type 0 where
   pub given : g .given ≡ L .given
-  pub rows : (f : ℕ → ℕ) → sum (λ i. pick (eqb (nameAt g i) 0) 0 (f (nameAt g i))) (upTo 64) ≡ sum (λ r. f (r .name)) (L .regions)
+  pub rows : (f : ℕ → ℕ) → sumOf (λ i. pick (eqb (nameAt g i) 0) 0 (f (nameAt g i))) (upTo 64) ≡ sumOf (λ r. f (r .name)) (L .regions)
   pub entry : (r : ℕ) → livesIn L r ≡ true → EntryAgrees sp (region (L .regions) r) g (entryOf g r)
 
 -- the newest page of a region is its own, and has the room that the model says; with none there is no room
@@ -96,7 +96,7 @@ pub record Laid (heap sp ms : List ℕ) (p : ℕ) (o : Object) : Type 0 where
   pub placed : 1 ≤ spot sp p
   pub inside : spot sp p + length (o .words) ≤ length heap
   pub header : getD heap (spot sp p - 1) 0 ≡ o .kind
-  pub words : (w : ℕ) → w < length (o .words) → getD heap (spot sp p + w) 0 ≡ image sp (getD ms w 0) (getD (o .words) w 0)
+  pub words : (w : ℕ) → w < length (o .words) → getD heap (spot sp p + w) 0 ≡ imageOf sp (getD ms w 0) (getD (o .words) w 0)
 
 -- the objects ps lie from place a to place e without gaps
 abbrev pub Tiles : Model → List ℕ → ℕ → ℕ → List ℕ → Type 0
@@ -113,7 +113,7 @@ pub record ObjectsAgree (L : Model) (sp : List ℕ) (ids : ℕ → List ℕ) (g 
   pub full : (j : ℕ) → j < p .made → ownerAt p j ≢ 0 → getD (p .taken) j 0 ≤ 64
   pub tiled : (j : ℕ) → j < p .made → ownerAt p j ≢ 0 → Tiles L sp (64 * j) (64 * j + getD (p .taken) j 0) (ids j)
   pub once : (r : ℕ) → livesIn L r ≡ true → (f : ℕ → ℕ)
-      → sum (λ j. pick (eqb (ownerAt p j) (tagOf g r)) (sum f (ids j)) 0) (upTo (p .made)) ≡ sum (λ q. pick (eqb (homeIn L q) r) (f q) 0) (idsIn L)
+      → sumOf (λ j. pick (eqb (ownerAt p j) (tagOf g r)) (sumOf f (ids j)) 0) (upTo (p .made)) ≡ sumOf (λ q. pick (eqb (homeIn L q) r) (f q) 0) (idsIn L)
 
 pub record Represents (L : Model) (sp : List ℕ) (ids : ℕ → List ℕ) (S : Store) : Type 0 where
   pub onFrames : FramesAgree sp (L .frames) (L .counted) (frames S)

@@ -1,1 +1,1 @@
-// The store's outcomes against the reference model, in specs/. No code.
+// When a store stands for a model of the reference, and that each call's outcome keeps it so, in specs/. No code.

@@ -4,12 +4,12 @@ use mathlib.Core.Path.{_≡_}
 use mathlib.Core.List.{List, [], _∷_}
 use Prim.Native.Nat.{ℕ, _-_, _≤_, _<_}
 use lib.ListN.{length, take, drop}
-use Rattle.script.specs.Script.{words, front, ofClass}
+use Rattle.script.specs.Script.{tokens, front, ofClass}
 
 -- the next word from `at` on stands from `from` to `to`; there is none where that is empty
 pub record NextWord (l : List ℕ) (at from to : ℕ) : Type 0 where
-  pub none : to ≤ from → words (drop at l) ≡ []
-  pub some : from < to → words (drop at l) ≡ take (to - from) (drop from l) ∷ words (drop to l)
+  pub none : to ≤ from → tokens (drop at l) ≡ []
+  pub some : from < to → tokens (drop at l) ≡ take (to - from) (drop from l) ∷ tokens (drop to l)
   pub onward : at ≤ from
   pub within : to - from ≤ length l - from
 

@@ -32,10 +32,10 @@ grown b [] = (b ∷ []) ∷ []
 grown b (w ∷ ws) = (b ∷ w) ∷ ws
 
 -- the words of a line, up to a comment: a byte that is no blank joins the word that the next byte begins, or is a word by itself
-unfoldable pub words : List ℕ → List (List ℕ)
-words [] = []
-words (b ∷ l) =
-    let ws = words l in
+unfoldable pub tokens : List ℕ → List (List ℕ)
+tokens [] = []
+tokens (b ∷ l) =
+    let ws = tokens l in
     pick (eqb b 35) [] (pick (blank b) ws (pick (inWord (getD l 0 32)) (grown b ws) ((b ∷ []) ∷ ws)))
 
 -- the bytes in front that pass a test, up to the first that does not
@@ -58,14 +58,14 @@ decimal v [] = v
 decimal v (b ∷ l) = decimal (v * 10 + (b - 48)) l
 
 -- what a word counts for: the number that it writes, or 2^32 where it writes none below that
-abbrev pub none : ℕ
-none = 4294967296
+abbrev pub noNumber : ℕ
+noNumber = 4294967296
 
 unfoldable pub value : List ℕ → ℕ
-value w = pick (ltb 0 (length w) && every digit w) (min (decimal 0 w) none) none
+value w = pick (ltb 0 (length w) && every digit w) (min (decimal 0 w) noNumber) noNumber
 
 abbrev pub known : ℕ → Bool
-known v = ltb v none
+known v = ltb v noNumber
 
 -- ---- calls
 
@@ -124,4 +124,4 @@ said made (w ∷ ws) =
     pick (allowed made (callOf w) (length vs) (getD vs 0 0)) (given (callOf w) vs) bad
 
 unfoldable pub scanned : Bool → List ℕ → Line
-scanned made l = said made (words l)
+scanned made l = said made (tokens l)

@@ -3,7 +3,7 @@ ghost use mathlib.Core.Path.{_≡_};
 ghost use mathlib.Core.List.{[], map};
 ghost use Prim.Native.Nat.{_+_};
 ghost use lib.ListN.{length, drop};
-ghost use Rattle.script.specs.Script.{blank, ofClass, front, words, value, placed, names, callOf, allowed, line, given, scanned};
+ghost use Rattle.script.specs.Script.{blank, ofClass, front, tokens, value, placed, names, callOf, allowed, line, given, scanned};
 ghost use Rattle.script.specs.Found.{NextWord, LineAt};
 
 // A line: `call` is 0 where nothing stands on it, 1 for pages, 2 to 23 for a call of document 01, and 24 where it is none of these.
@@ -110,7 +110,7 @@ fn number(w: &[u8]) -> u64
 
 // The place of w among the words of a line, from 1 on; 0 where it is none of them.
 fn place_of(w: &[u8], s: &[u8]) -> usize
-    ensures { λ r. ⌜ r ≡ placed 1 (now (w .entry)) (words (now (s .entry))) ⌝ }
+    ensures { λ r. ⌜ r ≡ placed 1 (now (w .entry)) (tokens (now (s .entry))) ⌝ }
 {
     let mut n: usize = 1;
     let mut i = 0;
@@ -193,7 +193,7 @@ fn bare(call: u32) -> Line
 
 // Call n with the words from `at` on as its arguments: 64 numbers at most.
 fn arguments(s: &[u8], at: usize, n: u32) -> Line
-    ensures { λ r. ⌜ r ≡ given n (map value (words (drop at (now (s .entry))))) ⌝ }
+    ensures { λ r. ⌜ r ≡ given n (map value (tokens (drop at (now (s .entry))))) ⌝ }
 {
     let mut args = [0u32; 64];
     let mut k: u32 = 0;

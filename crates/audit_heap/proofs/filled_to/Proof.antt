@@ -4,7 +4,7 @@ use mathlib.Core.List.{List, []}
 use native.Mathlib.Omega.{arith}
 use lib.ListN.{getD}
 use borrow.Author.Needs.{needs}
-use Rattle.lists.specs.Lists.{sum}
+use Rattle.lists.specs.Lists.{sumOf}
 use Rattle.kinds.specs.Kinds.{kindsWith, sizeIn, sizeOf}
 use Rattle.objects.specs.Objects.{headersTo}
 use Rattle.audit_heap.specs.Heap.{filledTo}
@@ -14,7 +14,7 @@ use Rattle.audit_heap.proofs.filled_to.Tie as tie
 
 -- the words that the objects take that are left in turn i at place `at`
 abbrev rest : ℕ → List ℕ → List ℕ → ℕ → ℕ → ℕ → ℕ
-rest declared sizes heap end at i = sum (λ q. 1 + sizeIn declared sizes (getD heap q 0)) (left (kindsWith declared sizes []) heap at end i)
+rest declared sizes heap end at i = sumOf (λ q. 1 + sizeIn declared sizes (getD heap q 0)) (left (kindsWith declared sizes []) heap at end i)
 
 -- the words passed and those left are all
 abbrev Inv-loop : tie.InvT-loop
@@ -46,14 +46,14 @@ returns c =
     let l = c .before .before .before .before in
     let a = l .before .before .before .args in
     let z = rw (c .before .before .part-at .ensures) at (c .before .fitting .ensures) in
-    omega (arith, ap (sum (λ q. 1 + sizeIn (a .declared) (a .sizes .now) (getD (a .heap .now) q 0))) (left-stop (kindsWith (a .declared) (a .sizes .now) []) (a .heap .now) (l .loop .at) (64 * a .j + a .n) (l .loop .i) _ z (c .if1 .taken)))
+    omega (arith, ap (sumOf (λ q. 1 + sizeIn (a .declared) (a .sizes .now) (getD (a .heap .now) q 0))) (left-stop (kindsWith (a .declared) (a .sizes .now) []) (a .heap .now) (l .loop .at) (64 * a .j + a .n) (l .loop .i) _ z (c .if1 .taken)))
 
 returns-2 : tie.Need-returns-2 Inv-loop μ-loop
 unfolding filledTo headersTo
 returns-2 c =
     let l = c .before in
     let a = l .before .before .before .args in
-    omega (arith, ap (sum (λ q. 1 + sizeIn (a .declared) (a .sizes .now) (getD (a .heap .now) q 0))) (left-none (kindsWith (a .declared) (a .sizes .now) []) (a .heap .now) (l .loop .at) (64 * a .j + a .n) (l .loop .i) (omega arith)))
+    omega (arith, ap (sumOf (λ q. 1 + sizeIn (a .declared) (a .sizes .now) (getD (a .heap .now) q 0))) (left-none (kindsWith (a .declared) (a .sizes .now) []) (a .heap .now) (l .loop .at) (64 * a .j + a .n) (l .loop .i) (omega arith)))
 
 pub filled-to-spec : {M : Type 1} → statement M
 filled-to-spec =

@@ -9,7 +9,7 @@ use native.Mathlib.Omega.{arith}
 use lib.Dec.{eqb, leb}
 use lib.ListN.{getD}
 use borrow.Author.Tests.{eqb-true, eqb-false, eq-eqb, ne-eqb, leb-true}
-use Rattle.lists.specs.Lists.{bit, pick, keep, sum, count, All, joined, upTo, times}
+use Rattle.lists.specs.Lists.{bit, pick, keep, sumOf, countOf, All, joined, upTo, times}
 use Rattle.lists.specs.Laws.Tests.{both, by-test, or-other, eqb-sym, or-known}
 use Rattle.lists.specs.Laws.All.{all-map, all-change}
 use Rattle.lists.specs.Laws.Sums.{sum-map, sum-append, sum-joined, sum-most, count-most}
@@ -75,7 +75,7 @@ module _ (S : Store) where
       vs : List ℕ
       vs = freeWordsOn (kinds S) (S .heap) (pages S) j
 
-  all-tags : (t : ℕ) → times t tags ≡ sum (wordsInto S t) (upTo (pageCount (pages S))) + sum (slotsInto S t) (upTo ((frames S) .counted))
+  all-tags : (t : ℕ) → times t tags ≡ sumOf (wordsInto S t) (upTo (pageCount (pages S))) + sumOf (slotsInto S t) (upTo ((frames S) .counted))
   unfolding countedTags pageCount slotsInto slotTargets
   all-tags t =
       let n : ℕ → ℕ = λ x. bit (eqb x t) in
@@ -88,16 +88,16 @@ module _ (S : Store) where
   unfolding wordsInto
   words-few t j = go (eqb (ownerAt (pages S) j) 0 || eqb (ownerAt (pages S) j) t)
     where
-      go : (b : Bool) → pick b 0 (count (λ v. eqb (ownerOf (pages S) v) t) (freeWordsOn (kinds S) (S .heap) (pages S) j)) ≤ 1024
+      go : (b : Bool) → pick b 0 (countOf (λ v. eqb (ownerOf (pages S) v) t) (freeWordsOn (kinds S) (S .heap) (pages S) j)) ≤ 1024
       go true = omega arith
       go false = omega (arith, count-most (λ v. eqb (ownerOf (pages S) v) t) (freeWordsOn (kinds S) (S .heap) (pages S) j), page-most (kinds S) (S .heap) (pages S) j)
 
   -- ---- the lowest m frames
 
   module _ (standing : leb ((frames S) .standing) 32 ≡ true) (below : leb ((frames S) .counted) ((frames S) .standing - 1) ≡ true) (widths : widthsFit ((frames S) .standing) ((frames S) .widths) ≡ true) where
-    marked : ((frames S) .counted ≤ frameCount (frames S)) × ((frames S) .counted ≤ 32)
+    m-fits : ((frames S) .counted ≤ frameCount (frames S)) × ((frames S) .counted ≤ 32)
     unfolding frameCount
-    marked = let a = leb-true ((frames S) .standing) 32 standing in let b = leb-true ((frames S) .counted) ((frames S) .standing - 1) below in (omega arith, omega arith)
+    m-fits = let a = leb-true ((frames S) .standing) 32 standing in let b = leb-true ((frames S) .counted) ((frames S) .standing - 1) below in (omega arith, omega arith)
 
     slots-few : (t f : ℕ) → f < frameCount (frames S) → slotsInto S t f ≤ 8
     unfolding widthsFit frameCount widthAt
@@ -114,11 +114,11 @@ module _ (S : Store) where
         omega (
           arith,
           all-tags t,
-          marked,
+          m-fits,
           length-upTo m,
           length-upTo n,
           sum-most (wordsInto S t) 1024 (upTo n) (all-upTo (λ j. wordsInto S t j ≤ 1024) n (λ j l. words-few t j)),
-          sum-most (slotsInto S t) 8 (upTo m) (all-upTo (λ f. slotsInto S t f ≤ 8) m (λ f l. slots-few t f (omega (arith, marked)))),
+          sum-most (slotsInto S t) 8 (upTo m) (all-upTo (λ f. slotsInto S t f ≤ 8) m (λ f l. slots-few t f (omega (arith, m-fits)))),
         )
 
     -- ---- where all pointers lead to objects
@@ -163,12 +163,12 @@ module _ (S : Store) where
           let m = (frames S) .counted in
           let r = nameAt (regions S) i in
           let f = history.slotsLeadingTo (begin S) S r in
-          let e : min m (frameCount (frames S)) ≡ m = omega (arith, marked) in
-          let a = sum-below f (slotsInto S (suc i)) m (λ k b. slots-into S h i n k (omega (arith, marked)) (slot-known k (omega (arith, marked)))) in
+          let e : min m (frameCount (frames S)) ≡ m = omega (arith, m-fits) in
+          let a = sum-below f (slotsInto S (suc i)) m (λ k b. slots-into S h i n k (omega (arith, m-fits)) (slot-known k (omega (arith, m-fits)))) in
           let b = words-into S h i n page-known in
           let u = rw e at (sum-above f m (frameCount (frames S))) in
           rw (entry-is S (h .names) (h .few) i n, frames-length S, moved-at ((regions S) .counts) [] tags i l, rolled-zero c t (cs .1 i) (tags-below (suc i)))
-          (eqb-iff (c + sum (λ k. pick (leb m k) (f k) 0) (upTo (frameCount (frames S)))) (sum f (upTo (frameCount (frames S))) + sum (history.wordsLeadingTo (begin S) S r) ((begin S) .objects)) c t (λ q. omega (arith, a, b, u, all-tags (suc i))) (λ q. omega (arith, a, b, u, all-tags (suc i))))
+          (eqb-iff (c + sumOf (λ k. pick (leb m k) (f k) 0) (upTo (frameCount (frames S)))) (sumOf f (upTo (frameCount (frames S))) + sumOf (history.wordsLeadingTo (begin S) S r) ((begin S) .objects)) c t (λ q. omega (arith, a, b, u, all-tags (suc i))) (λ q. omega (arith, a, b, u, all-tags (suc i))))
 
       pub counts-same : countsExact (begin S) S ≡ countsPass
       unfolding countsExact begin listedRegions countsFit allZero isZero nameAt

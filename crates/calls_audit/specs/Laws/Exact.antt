@@ -18,7 +18,7 @@ use Rattle.audit_regions.specs.Filed.{namesakes}
 use Rattle.audit_state.specs.Fits.{stateFits}
 use Rattle.audit_slots.specs.Leads.{entryOwns, entriesOwn}
 use Rattle.calls_audit.specs.Passes.{heapFits, passesIn, passes}
-use Rattle.calls_audit.specs.Laws.State.{folded-true, each-entry, entry-each, widths-same, state-passes, numbers, sizes, marks, widths, region, levels, distinct, past, one, parents}
+use Rattle.calls_audit.specs.Laws.State.{folded-true, each-entry, entry-each, widths-same, state-passes, numbers, sizes, marks, widths, region, levels, distinct, namesGiven, permanent, parents}
 use Rattle.calls_audit.specs.Laws.Heap.{pagesPass, newestPasses, oldestPasses, entriesPass, slotsPass, wordsPass, pages-pass, owned, held, filling, newest-same, oldest-same, slots-same, words-same}
 use Rattle.calls_audit.specs.Laws.Counts.{countsPass, counts-same}
 
@@ -86,8 +86,8 @@ module _ (S : Store) (names : length ((regions S) .names) ≡ 64) (cs : Counts (
         counted = n .counted;
         heapLength = n .heapLength;
         distinct = distinct S a;
-        past = past S a;
-        one = one S a;
+        namesGiven = namesGiven S a;
+        permanent = permanent S a;
         parents = parents S a;
         filling = filling S names b;
         newest = entry-each S (newestOwn S) (λ i l n. own-same o (t .1 .0) i l n .0);

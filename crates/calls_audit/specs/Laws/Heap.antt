@@ -10,12 +10,13 @@ use native.Mathlib.Omega.{arith}
 use lib.Dec.{eqb, ltb, eqb·suc-zero}
 use lib.ListN.{length, getD, replicate}
 use borrow.Author.Tests.{eqb-true, eqb-false, ne-eqb, not-true}
-use Rattle.lists.specs.Lists.{every, sum, All, upTo}
+use Rattle.lists.specs.Lists.{every, sumOf, All, upTo}
 use Rattle.lists.specs.Laws.Tests.{both, by-test, or-other, or-right}
 use Rattle.lists.specs.Laws.All.{all-map}
+use Rattle.lists.specs.Laws.Finds.{every-same}
 use Rattle.lists.specs.Laws.UpTo.{all-upTo, every-each, each-every}
 use Rattle.lists.specs.Laws.Kept.{joined-same, all-joined}
-use Rattle.lists.specs.Laws.Every.{every-map, every-joined, every-same, every-below}
+use Rattle.lists.specs.Laws.Every.{every-map, every-joined, every-below}
 use Rattle.model.specs.Model.{rule}
 use Rattle.frames.specs.Frames.{frameCount, widthAt, slotAt}
 use Rattle.kinds.specs.Kinds.{sizeIn, sizeOf, markAt}
@@ -86,7 +87,7 @@ module _ (S : Store) where
 
   fills : (names : length ((regions S) .names) ≡ 64) (j : ℕ) → filled S (holding S names j) ≡ eqb (filledTo ((kinds S) .declared) ((kinds S) .sizes) (S .heap) j (takenAt (pages S) j)) (getD ((pages S) .taken) j 0)
   unfolding filled filledTo sizeOf
-  fills names j = ap (λ l. eqb (sum (λ q. 1 + sizeIn ((kinds S) .declared) ((kinds S) .sizes) (getD (S .heap) q 0)) l) (getD ((pages S) .taken) j 0)) (headers-in j)
+  fills names j = ap (λ l. eqb (sumOf (λ q. 1 + sizeIn ((kinds S) .declared) ((kinds S) .sizes) (getD (S .heap) q 0)) l) (getD ((pages S) .taken) j 0)) (headers-in j)
 
   module _ (names : length ((regions S) .names) ≡ 64) where
     pub pages-pass : Sound S → pagesPass ≡ true

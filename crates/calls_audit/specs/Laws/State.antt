@@ -116,7 +116,7 @@ module _ (S : Store) where
     unfolding regionFits nameAt levelAt
     region-passes i l n =
         rw (
-          each-entry (λ i. leb (nameAt (regions S) i) ((regions S) .given)) (h .past) i l n,
+          each-entry (λ i. leb (nameAt (regions S) i) ((regions S) .given)) (h .namesGiven) i l n,
           ← names-same i n,
           each-entry (λ i. eqb (times (nameAt (regions S) i) (map (nameAt (regions S)) (entries S))) 1) (h .distinct) i l n,
           each-entry (λ i. leb (levelAt (regions S) i) 16) (h .levels) i l n,
@@ -125,7 +125,7 @@ module _ (S : Store) where
 
     regions-pass : regionsPass ≡ true
     unfolding regionsFit entryFits nameAt isLive entryOf
-    regions-pass = rw (sym (one-lives S) ∙ h .one) (sym (every-entry S regionPasses) ∙ entry-each regionPasses region-passes)
+    regions-pass = rw (sym (one-lives S) ∙ h .permanent) (sym (every-entry S regionPasses) ∙ entry-each regionPasses region-passes)
 
     pub state-passes : stateFits (S .state) (length (S .heap)) ≡ true
     unfolding stateFits stateFitsIn numbersFit
@@ -170,7 +170,7 @@ module _ (S : Store) where
     region-groups = both (isLive (regions S) 1) (every entryPasses (upTo 64)) (groups .1 .1 .1 .0)
 
     pub record Region (i : ℕ) : Type 0 where
-      pub past : leb (nameAt (regions S) i) ((regions S) .given) ≡ true
+      pub nameGiven : leb (nameAt (regions S) i) ((regions S) .given) ≡ true
       pub alone : eqb (namesakes ((regions S) .names) (nameAt (regions S) i)) 1 ≡ true
       pub level : leb (levelAt (regions S) i) 16 ≡ true
       pub below : placePasses i ≡ true
@@ -181,7 +181,7 @@ module _ (S : Store) where
         let g = regions S in
         let f = or-other (eqb (nameAt g i) 0) (regionPasses i) (every-each entryPasses 64 (region-groups .1) i l) (ne-eqb (nameAt g i) 0 n) in
         let t = folded-true (leb (nameAt g i) (g .given)) (eqb (namesakes (g .names) (nameAt g i)) 1 ∷ leb (levelAt g i) 16 ∷ placePasses i ∷ []) f in
-        record { past = t .0; alone = t .1 .0; level = t .1 .1 .0; below = t .1 .1 .1 .0 }
+        record { nameGiven = t .0; alone = t .1 .0; level = t .1 .1 .0; below = t .1 .1 .1 .0 }
 
     pub levels : every (λ i. leb (levelAt (regions S) i) 16) (entries S) ≡ true
     levels = entry-each (λ i. leb (levelAt (regions S) i) 16) (λ i l n. region i l n .level)
@@ -189,11 +189,11 @@ module _ (S : Store) where
     pub distinct : every (λ i. eqb (times (nameAt (regions S) i) (map (nameAt (regions S)) (entries S))) 1) (entries S) ≡ true
     distinct = entry-each (λ i. eqb (times (nameAt (regions S) i) (map (nameAt (regions S)) (entries S))) 1) (λ i l n. rw (names-same i n) (region i l n .alone))
 
-    pub past : every (λ i. leb (nameAt (regions S) i) ((regions S) .given)) (entries S) ≡ true
-    past = entry-each (λ i. leb (nameAt (regions S) i) ((regions S) .given)) (λ i l n. region i l n .past)
+    pub namesGiven : every (λ i. leb (nameAt (regions S) i) ((regions S) .given)) (entries S) ≡ true
+    namesGiven = entry-each (λ i. leb (nameAt (regions S) i) ((regions S) .given)) (λ i l n. region i l n .nameGiven)
 
-    pub one : among 1 (map (nameAt (regions S)) (entries S)) ≡ true
-    one = one-lives S ∙ region-groups .0
+    pub permanent : among 1 (map (nameAt (regions S)) (entries S)) ≡ true
+    permanent = one-lives S ∙ region-groups .0
 
     pub parents : every (placed S) (entries S) ≡ true
     parents = entry-each (placed S) (λ i l n. placed-same i ∙ region i l n .below)

@@ -8,7 +8,7 @@ use lib.Dec.{eqb}
 use lib.ListN.{length, getD}
 use borrow.Author.Needs.{needs}
 use borrow.Author.Tests.{eq-eqb, ne-eqb}
-use Rattle.lists.specs.Lists.{count, upTo}
+use Rattle.lists.specs.Lists.{countOf, upTo}
 use Rattle.lists.specs.Laws.Sums.{count-most}
 use Rattle.lists.specs.Laws.UpTo.{count-next, length-upTo}
 use Rattle.kinds.specs.Kinds.{kindsWith}
@@ -28,7 +28,7 @@ abbrev Inv-loop : tie.InvT-loop
 Inv-loop declared sizes marks heap made owners₀ taken counts₀ tag n number₀ j₀ owners counts number j =
     (n ≡ pageCountIn made) × (j ≤ n) × (owners ≡ ownersTo owners₀ tag j)
     × (counts ≡ leavings counts₀ (outOf owners₀ tag (wordsTo (kindsWith declared sizes marks) heap (pagesWith made owners₀ taken) tag j)))
-    × (number ≡ count (own owners₀ tag) (upTo j))
+    × (number ≡ countOf (own owners₀ tag) (upTo j))
 
 abbrev μ-loop : tie.MeasureT-loop
 μ-loop declared sizes marks heap made owners₀ taken counts₀ tag n number₀ j₀ owners counts number j = n - j

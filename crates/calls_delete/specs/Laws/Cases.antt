@@ -36,11 +36,11 @@ memory v c n = record {
 }
 
 -- of what is left: the counts of both entries, m, the owners of both pages, the name at the second entry
-abbrev shown : Store → List ℕ
-shown S = countAt (regions S) 0 ∷ countAt (regions S) 1 ∷ (frames S) .counted ∷ ownerAt (pages S) 0 ∷ ownerAt (pages S) 1 ∷ nameAt (regions S) 1 ∷ []
+abbrev reads : Store → List ℕ
+reads S = countAt (regions S) 0 ∷ countAt (regions S) 1 ∷ (frames S) .counted ∷ ownerAt (pages S) 0 ∷ ownerAt (pages S) 1 ∷ nameAt (regions S) 1 ∷ []
 
 -- one pointer into region 1 went with the page, two came with the frames that are counted now
-goes : shown (deleted (memory 0 0 0) 2) ≡ 2 ∷ 0 ∷ 2 ∷ 1 ∷ 0 ∷ 0 ∷ []
+goes : reads (deleted (memory 0 0 0) 2) ≡ 2 ∷ 0 ∷ 2 ∷ 1 ∷ 0 ∷ 0 ∷ []
 unfolding frameCount topFrame widthAt slotAt raised kindCount sizeOf markAt nameAt entryOf tagOf countAt withoutRegion withCounts rolled moved pageCount ownerAt takenAt ownerIn ownerOf freed walk headersTo headersOn freeWords freeWordsOn outOf slotTargets recounted outgoing newlyCounted deleted sizeIn entryIn recount targetsIn newlyIn freeWordsOf ownersTo
 goes = refl
 

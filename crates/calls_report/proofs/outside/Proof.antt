@@ -3,7 +3,7 @@ use mathlib.Core.List.{List}
 use Prim.Native.Nat.{ℕ, _+_, _-_, _%_, _<_}
 use native.Mathlib.Omega.{arith}
 use borrow.Author.Needs.{needs}
-use Rattle.lists.specs.Lists.{sum, from, times}
+use Rattle.lists.specs.Lists.{sumOf, from, times}
 use Rattle.lists.specs.Laws.UpTo.{from-next, from-end}
 use Rattle.frames.specs.Frames.{frameCountIn}
 use Rattle.outcomes.specs.Store.{targetsIn, slotsBeyondIn}
@@ -12,7 +12,7 @@ use Rattle.calls_report.proofs.outside.Tie as tie
 
 -- the slots of the frames from i up to n
 abbrev left : List ℕ → List ℕ → List ℕ → ℕ → ℕ → ℕ → ℕ
-left widths slots owners tag n i = sum (λ i. times tag (targetsIn widths slots owners i)) (from i (n - i))
+left widths slots owners tag n i = sumOf (λ i. times tag (targetsIn widths slots owners i)) (from i (n - i))
 
 -- with those left to look through it is the whole
 abbrev Inv-loop : tie.InvT-loop

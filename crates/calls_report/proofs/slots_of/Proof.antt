@@ -9,7 +9,7 @@ use lib.ListN.{length, getD, take, drop, length-take, length-drop, List·getD-eq
 use lib.Seq.{getD-take, getD-drop}
 use borrow.Author.Needs.{needs}
 use borrow.Author.Tests.{eq-eqb, ne-eqb}
-use Rattle.lists.specs.Lists.{bit, count, upTo}
+use Rattle.lists.specs.Lists.{bit, countOf, upTo}
 use Rattle.lists.specs.Laws.Sums.{count-most, sum-map}
 use Rattle.lists.specs.Laws.UpTo.{sum-suc, count-next, length-upTo}
 use Rattle.frames.specs.Frames.{widthIn, slotIn}
@@ -22,19 +22,19 @@ abbrev leads : List ℕ → List ℕ → ℕ → ℕ → ℕ → Bool
 leads slots owners tag i k = eqb (ownerIn owners (slotIn slots i k)) tag
 
 abbrev Inv-loop : tie.InvT-loop
-Inv-loop widths slots owners tag i n frame sum₀ k₀ sum k =
-    (n ≡ widthIn widths i) × (frame ≡ take n (drop (8 * i) slots)) × (k ≤ length frame) × (sum ≡ count (leads slots owners tag i) (upTo k))
+Inv-loop widths slots owners tag i n frame sumOf₀ k₀ sumOf k =
+    (n ≡ widthIn widths i) × (frame ≡ take n (drop (8 * i) slots)) × (k ≤ length frame) × (sumOf ≡ countOf (leads slots owners tag i) (upTo k))
 
 abbrev μ-loop : tie.MeasureT-loop
-μ-loop widths slots owners tag i n frame sum₀ k₀ sum k = length frame - k
+μ-loop widths slots owners tag i n frame sumOf₀ k₀ sumOf k = length frame - k
 
 -- the part has at most n slots, and all that there are
 long : (l : List ℕ) (at n : ℕ) → length (take n (drop at l)) ≡ min n (length l - at)
 long l at n = length-take n (drop at l) ∙ ap (min n) (length-drop at l)
 
 -- past k none counts
-past : (f : ℕ → Bool) (k d : ℕ) → ((j : ℕ) → k ≤ j → f j ≡ false) → count f (upTo (k + d)) ≡ count f (upTo k)
-past f k zero h = let e : k + 0 ≡ k = omega arith in ap (λ n. count f (upTo n)) e
+past : (f : ℕ → Bool) (k d : ℕ) → ((j : ℕ) → k ≤ j → f j ≡ false) → countOf f (upTo (k + d)) ≡ countOf f (upTo k)
+past f k zero h = let e : k + 0 ≡ k = omega arith in ap (λ n. countOf f (upTo n)) e
 past f k (suc d) h = let e : k + suc d ≡ suc (k + d) = omega arith in rw (e, sum-suc (λ j. bit (f j)) (k + d), h (k + d) (omega arith), past f k d h) (omega arith)
 
 module _ (slots owners : List ℕ) (tag i : ℕ) where
@@ -43,13 +43,13 @@ module _ (slots owners : List ℕ) (tag i : ℕ) where
   unfolding ownerIn
   unled h j k = rw (List·getD-eq-default slots 0 {n = 8 * i + j} k) (ne-eqb 0 tag (λ e. omega arith))
 
-  all-slots : (w k : ℕ) → 0 < tag → k ≡ min w (length slots - 8 * i) → count (leads slots owners tag i) (upTo k) ≡ count (leads slots owners tag i) (upTo w)
+  all-slots : (w k : ℕ) → 0 < tag → k ≡ min w (length slots - 8 * i) → countOf (leads slots owners tag i) (upTo k) ≡ countOf (leads slots owners tag i) (upTo w)
   all-slots w k h e =
       let d : k + (w - k) ≡ w = omega arith in
-      sym (ap (λ n. count (leads slots owners tag i) (upTo n)) (sym d) ∙ more (w - k) (omega arith))
+      sym (ap (λ n. countOf (leads slots owners tag i) (upTo n)) (sym d) ∙ more (w - k) (omega arith))
     where
-      more : (d : ℕ) → d ≡ w - k → count (leads slots owners tag i) (upTo (k + d)) ≡ count (leads slots owners tag i) (upTo k)
-      more zero q = let z : k + 0 ≡ k = omega arith in ap (λ n. count (leads slots owners tag i) (upTo n)) z
+      more : (d : ℕ) → d ≡ w - k → countOf (leads slots owners tag i) (upTo (k + d)) ≡ countOf (leads slots owners tag i) (upTo k)
+      more zero q = let z : k + 0 ≡ k = omega arith in ap (λ n. countOf (leads slots owners tag i) (upTo n)) z
       more (suc d) q = past (leads slots owners tag i) k (suc d) (λ j l. unled h j (omega arith))
 
 -- what the part has is what the slots have there

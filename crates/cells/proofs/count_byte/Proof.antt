@@ -6,13 +6,13 @@ use borrow.Author.Tests.{eq-eqb, ne-eqb}
 use native.Mathlib.Omega.{arith}
 use lib.Dec.{eqb}
 use lib.ListN.{getD}
-use Rattle.lists.specs.Lists.{count, upTo}
+use Rattle.lists.specs.Lists.{countOf, upTo}
 use Rattle.cells.proofs.Laws.{count-more}
 use Rattle.cells.proofs.count_byte.Statement.{statement}
 use Rattle.cells.proofs.count_byte.Tie as tie
 
 abbrev Inv-loop : tie.InvT-loop
-Inv-loop s n x k₀ i₀ k i = (i ≤ n) × (k ≤ i) × (k ≡ count (λ j. eqb (getD s j 0) x) (upTo i))
+Inv-loop s n x k₀ i₀ k i = (i ≤ n) × (k ≤ i) × (k ≡ countOf (λ j. eqb (getD s j 0) x) (upTo i))
 
 abbrev μ-loop : tie.MeasureT-loop
 μ-loop s n x k₀ i₀ k i = n - i

@@ -16,7 +16,7 @@ use Rattle.pages.specs.Pages.{wrongLength}
 use Rattle.outcomes.specs.Store.{Store, frames, regions, pages}
 use Rattle.outcomes.specs.Outcome.{badLength, noFrame, oneFrame, lacks, lacksBeneath, dead}
 use Rattle.outcomes.specs.Laws.Steps.{reason-append}
-use Rattle.checks.specs.Checks.{orElse, topTests, beneathTests, regionTests}
+use Rattle.checks.specs.Checks.{firstRefusal, topTests, beneathTests, regionTests}
 
 or-same : (b : Bool) → (b || b) ≡ b
 or-same true = refl
@@ -35,29 +35,29 @@ module _ (S : Store) where
 
 module _ (S : Store) (rest : List (Bool × ℕ)) where
   -- a call that begins with one slot of the top frame, with two, with one of each of the two upper frames, with a region's name
-  pub one-slot : (s : ℕ) → reason (badLength S yields 21 ∷ noFrame S yields 6 ∷ lacks S s yields 9 ∷ rest) ≡ orElse (reason (top S s s)) (reason rest)
+  pub one-slot : (s : ℕ) → reason (badLength S yields 21 ∷ noFrame S yields 6 ∷ lacks S s yields 9 ∷ rest) ≡ firstRefusal (reason (top S s s)) (reason rest)
   unfolding topTests badLength noFrame lacks wrongLength widthAt topFrame
   one-slot s = ap (λ b. reason (badLength S yields 21 ∷ noFrame S yields 6 ∷ b yields 9 ∷ rest)) (sym (or-same (lacks S s))) ∙ reason-append (top S s s) rest refl
 
-  pub two-slots : (s t : ℕ) → reason (badLength S yields 21 ∷ noFrame S yields 6 ∷ (lacks S s || lacks S t) yields 9 ∷ rest) ≡ orElse (reason (top S s t)) (reason rest)
+  pub two-slots : (s t : ℕ) → reason (badLength S yields 21 ∷ noFrame S yields 6 ∷ (lacks S s || lacks S t) yields 9 ∷ rest) ≡ firstRefusal (reason (top S s t)) (reason rest)
   unfolding topTests badLength noFrame lacks wrongLength widthAt topFrame
   two-slots s t = reason-append (top S s t) rest refl
 
-  pub slot-beneath : (s b : ℕ) → reason (badLength S yields 21 ∷ oneFrame S yields 6 ∷ (lacks S s || lacksBeneath S b) yields 9 ∷ rest) ≡ orElse (reason (beneath S s b)) (reason rest)
+  pub slot-beneath : (s b : ℕ) → reason (badLength S yields 21 ∷ oneFrame S yields 6 ∷ (lacks S s || lacksBeneath S b) yields 9 ∷ rest) ≡ firstRefusal (reason (beneath S s b)) (reason rest)
   unfolding beneathTests badLength oneFrame lacks lacksBeneath wrongLength widthAt topFrame
   slot-beneath s b = reason-append (beneath S s b) rest refl
 
-  pub one-region : (r : ℕ) → reason (badLength S yields 21 ∷ dead S r yields 2 ∷ rest) ≡ orElse (reason (named S r)) (reason rest)
+  pub one-region : (r : ℕ) → reason (badLength S yields 21 ∷ dead S r yields 2 ∷ rest) ≡ firstRefusal (reason (named S r)) (reason rest)
   unfolding regionTests badLength dead isLive wrongLength
   one-region r = reason-append (named S r) rest refl
 
 -- with no test more
-pub or-zero : (g : ℕ) → orElse g 0 ≡ g
+pub or-zero : (g : ℕ) → firstRefusal g 0 ≡ g
 or-zero g = by-test (eqb g 0) (λ e. rw e (sym (eqb-true g 0 e))) (λ e. rw e)
 
 -- where the first group of tests refuses, and where it accepts; g is what a function gave for it
-pub else-first : (t g h : ℕ) → g ≡ t → g ≢ 0 → orElse t h ≡ g
+pub else-first : (t g h : ℕ) → g ≡ t → g ≢ 0 → firstRefusal t h ≡ g
 else-first t g h e z = rw (← e, ne-eqb g 0 z)
 
-pub else-next : (t g h : ℕ) → g ≡ t → g ≡ 0 → orElse t h ≡ h
+pub else-next : (t g h : ℕ) → g ≡ t → g ≡ 0 → firstRefusal t h ≡ h
 else-next t g h e z = rw (← e, z)

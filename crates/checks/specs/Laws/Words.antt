@@ -18,7 +18,7 @@ use Rattle.objects.specs.Laws.Words.{object-header, object-word}
 use Rattle.outcomes.specs.Store.{Store, frames, kinds, slot}
 use Rattle.outcomes.specs.Outcome.{noWord, isData}
 use Rattle.outcomes.specs.Laws.Steps.{reason-append}
-use Rattle.checks.specs.Checks.{orElse, wordTests}
+use Rattle.checks.specs.Checks.{firstRefusal, wordTests}
 
 module _ (S : Store) (s : ℕ) where
   -- what slot s holds, and the object that it leads to
@@ -36,16 +36,16 @@ module _ (S : Store) (s : ℕ) where
 
   -- a test on a word's mark, after those of the word
   pub tested : (test : Bool → Bool) (w : ℕ)
-      → reason (eqb (slot S s) 0 yields 14 ∷ noWord S s w yields 15 ∷ test (isData S s w) yields 16 ∷ []) ≡ orElse (reason (words w)) (reason (test (eqb (mark w) 0) yields 16 ∷ []))
+      → reason (eqb (slot S s) 0 yields 14 ∷ noWord S s w yields 15 ∷ test (isData S s w) yields 16 ∷ []) ≡ firstRefusal (reason (words w)) (reason (test (eqb (mark w) 0) yields 16 ∷ []))
   unfolding wordTests noWord isData wordCount markOf markAt sizeOf slot slotAt topFrame
   tested test w = rw (← object-header (S .heap) held) (reason-append (words w) (test (eqb (mark w) 0) yields 16 ∷ []) refl)
 
 -- where the tests of a word accept, what the part that begins at its object has is the word
-pub word-read : (declared : ℕ) (sizes heap : List ℕ) (v w g : ℕ) → orElse (reason (wordTests declared sizes (objectOf heap v) v w)) g ≡ 0 → wordIn (objectOf heap v) w ≡ wordAt heap v w
+pub word-read : (declared : ℕ) (sizes heap : List ℕ) (v w g : ℕ) → firstRefusal (reason (wordTests declared sizes (objectOf heap v) v w)) g ≡ 0 → wordIn (objectOf heap v) w ≡ wordAt heap v w
 unfolding wordTests
 word-read declared sizes heap v w g e = go (eqb v 0) refl (leb (sizeIn declared sizes (headerIn (objectOf heap v))) w) refl e
   where
-    go : (a : Bool) → eqb v 0 ≡ a → (b : Bool) → leb (sizeIn declared sizes (headerIn (objectOf heap v))) w ≡ b → orElse (pick a 14 (pick b 15 0)) g ≡ 0
+    go : (a : Bool) → eqb v 0 ≡ a → (b : Bool) → leb (sizeIn declared sizes (headerIn (objectOf heap v))) w ≡ b → firstRefusal (pick a 14 (pick b 15 0)) g ≡ 0
         → wordIn (objectOf heap v) w ≡ wordAt heap v w
     go true p b q e = absurd (omega (arith, e))
     go false p true q e = absurd (omega (arith, e))

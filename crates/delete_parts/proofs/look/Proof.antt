@@ -7,7 +7,7 @@ use lib.Dec.{eqb}
 use borrow.Author.Count.{below-none, below-more}
 use borrow.Author.Needs.{needs}
 use borrow.Author.Tests.{eq-eqb, ne-eqb}
-use Rattle.lists.specs.Lists.{any, from, upTo, among}
+use Rattle.lists.specs.Lists.{anyOf, from, upTo, among}
 use Rattle.lists.specs.Laws.Finds.{any-map}
 use Rattle.lists.specs.Laws.UpTo.{any-one, none-any, from-next, from-end}
 use Rattle.frames.specs.Frames.{frameCountIn, widthIn, slotIn}
@@ -24,7 +24,7 @@ module _ (widths slots owners : List ℕ) (tag i : ℕ) where
   leads = among tag (targetsIn widths slots owners i)
 
   -- a frame leads there exactly if a slot of it does
-  slot-by-slot : leads ≡ any into (upTo (widthIn widths i))
+  slot-by-slot : leads ≡ anyOf into (upTo (widthIn widths i))
   unfolding targetsIn
   slot-by-slot = any-map (λ t. eqb t tag) (λ s. ownerIn owners (slotIn slots i s)) (upTo (widthIn widths i))
 
@@ -38,7 +38,7 @@ abbrev μ-loop : tie.MeasureT-loop
 -- the frames left lead there exactly if all uncounted frames do
 abbrev Inv-look : tie.InvT-look
 Inv-look standing counted widths slots owners tag n found₀ i₀ found i =
-    (found ≡ false) × (n ≡ frameCountIn standing) × (any (leads widths slots owners tag) (from i (frameCountIn standing - i)) ≡ ledIn standing counted widths slots owners tag)
+    (found ≡ false) × (n ≡ frameCountIn standing) × (anyOf (leads widths slots owners tag) (from i (frameCountIn standing - i)) ≡ ledIn standing counted widths slots owners tag)
 
 abbrev μ-look : tie.MeasureT-look
 μ-look standing counted widths slots owners tag n found₀ i₀ found i = n - i

@@ -15,7 +15,7 @@ use Rattle.pages.specs.Pages.{pageCount, ownerAt, takenAt, isFree}
 use Rattle.objects.specs.Objects.{walk, headersTo, headersOn}
 use Rattle.outcomes.specs.History.{History, begin, entries, listedRegions, listedKinds, listedFrames, listedHeld, listedFree, metOn, slotsOf, pointersOf, homeOf, slotsLeadingTo, wordsLeadingTo, outside, storedCount, subregions, holders}
 use Rattle.outcomes.specs.Examples.{small}
-use Rattle.refinement.specs.Runs.{Event}
+use Rattle.outcomes.specs.Runs.{Event}
 use Rattle.demands.specs.Told.{opening, withFrames, born, popped, objectMade, ended, told, note}
 
 -- three frames, the lower two counted; an object of region 1 at the start of page 1; a push that was refused

@@ -18,7 +18,7 @@ use Rattle.outcomes.specs.Laws.Refused.{total, refusals, audit-exact}
 use Rattle.outcomes.specs.Laws.Length.{length-first}
 use Rattle.outcomes.specs.Laws.Heap.{same-length, only-named}
 use Rattle.outcomes.specs.Laws.Keeps.{keeps-shape}
-use Rattle.refinement.specs.Laws.Audited.{audited}
+use Rattle.audited.specs.Laws.Audited.{audited}
 use Rattle.demands.specs.Demands.{Demand1}
 use Rattle.demands.specs.Laws.Demand2.{made-good}
 

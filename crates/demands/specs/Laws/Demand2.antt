@@ -13,9 +13,9 @@ use Rattle.outcomes.specs.Store.{Store}
 use Rattle.outcomes.specs.Outcome.{MakeOutcome}
 use Rattle.outcomes.specs.Promises.{AuditExact}
 use Rattle.outcomes.specs.Laws.Refused.{audit-exact}
-use Rattle.refinement.specs.Rebuild.{rebuilt}
+use Rattle.audited.specs.Rebuild.{rebuilt}
 use Rattle.refinement.specs.Laws.Fresh.{make-pages, make-answers, make-represents, make-shaped}
-use Rattle.refinement.specs.Laws.Good.{Good, audited-good}
+use Rattle.audited.specs.Laws.Good.{Good, audited-good}
 use Rattle.demands.specs.Demands.{Demand2, AuditedAnswers}
 use Rattle.demands.specs.Laws.Steps.{run-follows}
 

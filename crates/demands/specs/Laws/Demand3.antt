@@ -16,16 +16,16 @@ use Rattle.outcomes.specs.History.{History, begin}
 use Rattle.outcomes.specs.Outcome.{MakeOutcome}
 use Rattle.outcomes.specs.Promises.{Total, AuditExact}
 use Rattle.outcomes.specs.Laws.Refused.{total, audit-exact}
-use Rattle.refinement.specs.Runs.{calls, done, step}
-use Rattle.refinement.specs.Rebuild.{places, rebuilt}
+use Rattle.outcomes.specs.Runs.{calls, done, step}
+use Rattle.audited.specs.Rebuild.{places, rebuilt}
 use Rattle.refinement.specs.Laws.Fresh.{make-pages}
-use Rattle.refinement.specs.Laws.Audited.{audited}
-use Rattle.refinement.specs.Laws.Tells.{Tells}
-use Rattle.refinement.specs.Laws.Good.{lists, lists-pages, audited-good}
+use Rattle.audited.specs.Laws.Audited.{audited}
+use Rattle.histories.specs.Laws.Tells.{Tells}
+use Rattle.audited.specs.Laws.Good.{lists, lists-pages, audited-good}
 use Rattle.demands.specs.Told.{history}
 use Rattle.demands.specs.Demands.{RunsExist, Start, afterMake, afterAudit, Demand3, StaysSound, StaysShown, StartsAgree}
 use Rattle.demands.specs.Laws.Opening.{blank-opens}
-use Rattle.refinement.specs.Laws.TellsPages.{TellsPages}
+use Rattle.histories.specs.Laws.TellsPages.{TellsPages}
 use Rattle.demands.specs.Laws.Steps.{Told, run-told, begins}
 use Rattle.demands.specs.Laws.Demand2.{made-good}
 use Rattle.demands.specs.Laws.Holds.{holds}

@@ -22,9 +22,9 @@ use Rattle.refinement.specs.Represents.{Represents}
 use Rattle.refinement.specs.Laws.Report as report
 use Rattle.refinement.specs.Laws.Refusals.{refusals-agree}
 use Rattle.demands.specs.Demands.{Holds}
-use Rattle.refinement.specs.Laws.Tells.{Tells, live-is, subregions-are}
-use Rattle.refinement.specs.Laws.Pointers.{slots-lead, words-lead, outside-is, uncounted-is}
-use Rattle.refinement.specs.Laws.TellsPages.{TellsPages, pages-held}
+use Rattle.histories.specs.Laws.Tells.{Tells, live-is, subregions-are}
+use Rattle.histories.specs.Laws.Pointers.{slots-lead, words-lead, outside-is, uncounted-is}
+use Rattle.histories.specs.Laws.TellsPages.{TellsPages, pages-held}
 
 module _ {L : Model} {sp : List ℕ} {ids : ℕ → List ℕ} {S : Store} {h : History} (v : Valid L) (rep : Represents L sp ids S) (t : Tells L sp h) (u : TellsPages h ((regions S) .names) (pages S)) (small : (r : ℕ) → outside L r ≤ 16640) where
   outside-told : (r : ℕ) → history.outside h S r ≡ outside L r

@@ -10,13 +10,13 @@ use lib.Dec.{eqb, ltb, leb}
 use lib.ListN.{length, getD, set, take, replicate, length-append, length-replicate, length-set, List·getD-append, List·getD-map}
 use lib.Seq.{map-set-same, getD-append-seam}
 use borrow.Author.Tests.{eqb-true, eq-eqb}
-use Rattle.lists.specs.Lists.{pick, sum, from}
+use Rattle.lists.specs.Lists.{pick, sumOf, from}
 use Rattle.lists.specs.Laws.Tests.{by-test}
 use Rattle.lists.specs.Laws.All.{all-map, all-at}
 use Rattle.lists.specs.Laws.Sums.{sum-append, sum-map, sum-keep, sum-same}
 use Rattle.lists.specs.Laws.Finds.{map-append}
 use Rattle.lists.specs.Laws.UpTo.{sum-from-suc, all-from}
-use Rattle.model.specs.Model.{Model, Region, Object, noObject, object, called, live, livesIn, homeIn, last, top, slot}
+use Rattle.model.specs.Model.{Model, Region, Object, noObject, object, called, live, livesIn, homeIn, topPlace, top, slot}
 use Rattle.model.specs.Calls.{fillSlot, popFrame, replaced, withWord, withObjects, writeWord, addRegion, grown, addObject, others, removeRegion, size}
 use Rattle.model.specs.Calls as model
 use Rattle.model.specs.Valid.{Valid}
@@ -27,7 +27,7 @@ use Rattle.refinement.specs.Represents.{spot, idsIn}
 use Rattle.refinement.specs.Laws.Stack.{mark-falls}
 use Rattle.refinement.specs.Laws.Places.{newObject, newId, made-lives, spot-last}
 use Rattle.demands.specs.Told.{withKinds, withFrames, born, popped, objectMade, ended}
-use Rattle.refinement.specs.Laws.Tells.{listed, met, Tells, frames-length}
+use Rattle.histories.specs.Laws.Tells.{listed, met, Tells, frames-length}
 
 map-take : {A B : Type 0} (f : A → B) (n : ℕ) (l : List A) → map f (take n l) ≡ take n (map f l)
 map-take f zero l = refl
@@ -50,7 +50,7 @@ module _ {L : Model} {sp : List ℕ} {h : History} (t : Tells L sp h) where
 
   pub fill-told : (s p : ℕ) → Tells (fillSlot L s p) sp h
   unfolding fillSlot
-  fill-told s p = framed _ (L .counted) (h .frames) (h .counted) (t .frames ∙ sym (map-set-same length (L .frames) (last (L .frames)) (set (top L) s p) [] (simp length-set))) (t .counted)
+  fill-told s p = framed _ (L .counted) (h .frames) (h .counted) (t .frames ∙ sym (map-set-same length (L .frames) (topPlace (L .frames)) (set (top L) s p) [] (simp length-set))) (t .counted)
 
   pub push-told : (n : ℕ) → Tells (model.withFrames L (L .frames ++ (replicate n 0 ∷ [])) (L .counted)) sp (withFrames h (h .frames ++ (n ∷ [])) (h .counted))
   push-told n = framed _ (L .counted) (h .frames ++ (n ∷ [])) (h .counted)
@@ -58,9 +58,9 @@ module _ {L : Model} {sp : List ℕ} {h : History} (t : Tells L sp h) where
 
   pub pop-told : Valid L → Tells (popFrame L) sp (popped h)
   unfolding popFrame popped
-  pop-told v = framed (take (last (L .frames)) (L .frames)) _ _ _
-      (ap₂ (λ n l. take (n - 1) l) (frames-length t) (t .frames) ∙ sym (map-take length (last (L .frames)) (L .frames)))
-      (ap₂ (λ n m. pick (ltb 0 (n - 1) && leb (n - 1) m) (m - 1) m) (frames-length t) (t .counted) ∙ mark-falls (last (L .frames)) (L .counted) (v .frames .mark))
+  pop-told v = framed (take (topPlace (L .frames)) (L .frames)) _ _ _
+      (ap₂ (λ n l. take (n - 1) l) (frames-length t) (t .frames) ∙ sym (map-take length (topPlace (L .frames)) (L .frames)))
+      (ap₂ (λ n m. pick (ltb 0 (n - 1) && leb (n - 1) m) (m - 1) m) (frames-length t) (t .counted) ∙ mark-falls (topPlace (L .frames)) (L .counted) (v .frames .mark))
 
   -- ---- words
 
@@ -74,7 +74,7 @@ module _ {L : Model} {sp : List ℕ} {h : History} (t : Tells L sp h) where
     objects = λ f.
         let o = withWord (getD (L .objects) i noObject) w x in
         let one : ℕ → Object → ℕ = λ q o. pick (livesIn L (o .home)) (f (record { place = spot sp q - 1; kind = o .kind; home = o .home })) 0 in
-        t .objects f ∙ sym (ap (λ n. sum (λ q. one q (object (set (L .objects) i o) q)) (from 1 n)) (length-set (L .objects) i o) ∙ ap (λ k. sum k (idsIn L)) (fun-ext (λ q. object-set (one q) (L .objects) i o refl q)));
+        t .objects f ∙ sym (ap (λ n. sumOf (λ q. one q (object (set (L .objects) i o) q)) (from 1 n)) (length-set (L .objects) i o) ∙ ap (λ k. sumOf k (idsIn L)) (fun-ext (λ q. object-set (one q) (L .objects) i o refl q)));
   }
 
   pub write-told : (s w x : ℕ) → Tells (writeWord L s w x) sp h
@@ -92,11 +92,11 @@ module _ {L : Model} {sp : List ℕ} {h : History} (t : Tells L sp h) where
         frames = t .frames;
         counted = t .counted;
         regions = λ f. sum-append f (h .regions) (listed g ∷ []) ∙ ap (λ n. n + (f (listed g) + 0)) (t .regions f) ∙ sym (sum-append (λ g. f (listed g)) (L .regions) (g ∷ []));
-        objects = λ f. t .objects f ∙ ap (λ k. sum k (idsIn L)) (fun-ext (λ q. ap (λ b. pick b (f (met L sp q)) 0) (sym (live-less (L .regions) g (homeIn L q) (λ e. omega (arith, past q))))));
+        objects = λ f. t .objects f ∙ ap (λ k. sumOf k (idsIn L)) (fun-ext (λ q. ap (λ b. pick b (f (met L sp q)) 0) (sym (live-less (L .regions) g (homeIn L q) (λ e. omega (arith, past q))))));
       }
     where
       past : (q : ℕ) → homeIn L q ≤ L .given
-      past q = all-at (λ o. o .home ≤ L .given) (noObject ∷ L .objects) q noObject (omega arith, all-map (λ o k. k .past) (L .objects) (v .objects)) (omega arith)
+      past q = all-at (λ o. o .home ≤ L .given) (noObject ∷ L .objects) q noObject (omega arith, all-map (λ o k. k .homeGiven) (L .objects) (v .objects)) (omega arith)
 
   pub remove-told : (r : ℕ) → Tells (removeRegion L r) sp (ended h r)
   unfolding removeRegion ended
@@ -105,7 +105,7 @@ module _ {L : Model} {sp : List ℕ} {h : History} (t : Tells L sp h) where
     frames = t .frames;
     counted = ap (λ n. n - 1) (frames-length t);
     regions = λ f. sum-keep f _ (h .regions) ∙ t .regions (λ g. pick (not (eqb (g .name) r)) (f g) 0) ∙ sym (sum-keep (λ g. f (listed g)) (λ g. not (called r g)) (L .regions));
-    objects = λ f. sum-keep f _ (h .objects) ∙ t .objects (λ o. pick (not (eqb (o .home) r)) (f o) 0) ∙ ap (λ k. sum k (idsIn L)) (fun-ext (λ q. gone (homeIn L q) (f (met L sp q))));
+    objects = λ f. sum-keep f _ (h .objects) ∙ t .objects (λ o. pick (not (eqb (o .home) r)) (f o) 0) ∙ ap (λ k. sumOf k (idsIn L)) (fun-ext (λ q. gone (homeIn L q) (f (met L sp q))));
   }
     where
       gone : (q n : ℕ) → pick (livesIn L q) (pick (not (eqb q r)) n 0) 0 ≡ pick (live (others (L .regions) r) q) n 0
@@ -155,12 +155,12 @@ module _ {L : Model} {sp : List ℕ} {h : History} (t : Tells L sp h) where
       kinds = t .kinds;
       frames = t .frames;
       counted = t .counted;
-      regions = λ f. t .regions f ∙ sym (sum-map (λ g. f (listed g)) _ (L .regions) ∙ ap (λ k. sum k (L .regions)) (fun-ext (λ g. ap f (regions-kept g))));
+      regions = λ f. t .regions f ∙ sym (sum-map (λ g. f (listed g)) _ (L .regions) ∙ ap (λ k. sumOf k (L .regions)) (fun-ext (λ g. ap f (regions-kept g))));
       objects = λ f.
           let n = length (L .objects) in
           let one : ℕ → ℕ = λ q. adds f (spot sp₂ q) (object os₂ q) in
           let e : length os₂ ≡ suc n = simp length-append (omega arith) in
           let i : 1 + n ≡ newId L = omega arith in
           let old = sum-same one _ (idsIn L) (all-from _ 1 n (λ q a b. adds-old f q (omega arith))) in
-          sum-append f (h .objects) _ ∙ omega (arith, t .objects f, old, ap one i, adds-new f, sum-from-suc one 1 n, ap (λ m. sum one (from 1 m)) e);
+          sum-append f (h .objects) _ ∙ omega (arith, t .objects f, old, ap one i, adds-new f, sum-from-suc one 1 n, ap (λ m. sumOf one (from 1 m)) e);
     }

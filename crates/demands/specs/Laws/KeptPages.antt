@@ -10,7 +10,7 @@ use lib.Dec.{eqb}
 use lib.ListN.{length, set}
 use lib.Seq.{getD-set-other}
 use borrow.Author.Tests.{eqb-false, eq-eqb, ne-eqb}
-use Rattle.lists.specs.Lists.{bit, pick, every, keep, sum, times, among}
+use Rattle.lists.specs.Lists.{bit, pick, every, keep, sumOf, times, among}
 use Rattle.lists.specs.Laws.Tests.{by-test, by-same, pick-same}
 use Rattle.lists.specs.Laws.Sums.{sum-append, sum-map, sum-keep}
 use Rattle.lists.specs.Laws.Finds.{times-keep, keep-append, map-append}
@@ -26,7 +26,7 @@ use Rattle.refinement.specs.Represents.{RegionsAgree, Owned, PagesAgree}
 use Rattle.refinement.specs.Laws.Tags.{entry-name, live-named, tag-some, tag-same, tag-injective}
 use Rattle.refinement.specs.Laws.Reads.{page-count}
 use Rattle.demands.specs.Told.{objectMade, pagesHeldBy, ended}
-use Rattle.refinement.specs.Laws.TellsPages.{holding, TellsPages, holding-tag, heldBy, held-else}
+use Rattle.histories.specs.Laws.TellsPages.{holding, TellsPages, holding-tag, heldBy, held-else}
 
 -- a name written at another entry
 holding-else : (names : List ℕ) (i x t : ℕ) → t ≢ i + 1 → holding (set names i x) t ≡ holding names t
@@ -37,7 +37,7 @@ holding-else names i x (suc k) n = ap (λ m. m ∷ []) (getD-set-other names i k
 times-held : (j r : ℕ) (l : List Holding) → times j (map (λ t. t .page) (keep (λ t. eqb (t .region) r) l)) ≡ times r (heldBy j l)
 times-held j r l =
     sum-map (λ x. bit (eqb x j)) (λ t. t .page) (keep (λ t. eqb (t .region) r) l) ∙ sum-keep (λ t. bit (eqb (t .page) j)) (λ t. eqb (t .region) r) l
-    ∙ ap (λ f. sum f l) (fun-ext (λ t. go (eqb (t .region) r) (eqb (t .page) j)))
+    ∙ ap (λ f. sumOf f l) (fun-ext (λ t. go (eqb (t .region) r) (eqb (t .page) j)))
     ∙ sym (sum-map (λ x. bit (eqb x r)) (λ t. t .region) (keep (λ t. eqb (t .page) j) l) ∙ sum-keep (λ t. bit (eqb (t .region) r)) (λ t. eqb (t .page) j) l)
   where
     go : (a b : Bool) → pick a (bit b) 0 ≡ pick b (bit a) 0

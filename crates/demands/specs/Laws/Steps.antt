@@ -11,7 +11,7 @@ use lib.Seq.{getD-set-same}
 use borrow.Author.Tests.{eqb-false, leb-false, not-false}
 use Rattle.lists.specs.Lists.{pick}
 use Rattle.model.specs.Model.{Model, Answer, Call, declare, newRegion, subregion, push, dropFrame, handBack, allocate, first, copy, fetch, clear, load, setPointer, put, get, view, same, about, report, totals, audit, delete}
-use Rattle.model.specs.Model.{livesIn, last, top, stored, gives}
+use Rattle.model.specs.Model.{livesIn, topPlace, top, stored, gives}
 use Rattle.model.specs.Calls.{checks, refusal, noFrame, lacks, reply, accepted, answer, answerBy, next, nextBy, run, after}
 use Rattle.model.specs.Valid.{Valid}
 use Rattle.model.specs.Paged.{Paged}
@@ -30,7 +30,7 @@ use Rattle.outcomes.specs.Promises.{Refusals, KeepsShape, Sent}
 use Rattle.outcomes.specs.Laws.Keeps.{keeps-shape}
 use Rattle.outcomes.specs.Laws.Refused.{refusals}
 use Rattle.refinement.specs.Represents.{Represents}
-use Rattle.refinement.specs.Runs.{Event, calls, answers, Run, done, step}
+use Rattle.outcomes.specs.Runs.{Event, calls, answers, Run, done, step}
 use Rattle.refinement.specs.Laws.Tags.{unused-free}
 use Rattle.refinement.specs.Laws.Reads.{top-frame, frame-small}
 use Rattle.refinement.specs.Laws.Refusals.{refusals-agree}
@@ -41,11 +41,11 @@ use Rattle.refinement.specs.Laws.Grow.{declare-step, new-step, sub-step}
 use Rattle.refinement.specs.Laws.Allocate.{joined, chosen-page, allocated-represents}
 use Rattle.refinement.specs.Laws.Report.{report-step}
 use Rattle.refinement.specs.Laws.Delete.{delete-step}
-use Rattle.refinement.specs.Laws.Audited.{audited}
-use Rattle.refinement.specs.Laws.Good.{Good, lists, lists-pages}
-use Rattle.demands.specs.Told.{told, shown, note, noteBy, history, born, popped, objectMade}
-use Rattle.refinement.specs.Laws.Tells.{Tells, frames-length}
-use Rattle.refinement.specs.Laws.TellsPages.{TellsPages}
+use Rattle.audited.specs.Laws.Audited.{audited}
+use Rattle.audited.specs.Laws.Good.{Good, lists, lists-pages}
+use Rattle.demands.specs.Told.{told, slotAfter, note, noteBy, history, born, popped, objectMade}
+use Rattle.histories.specs.Laws.Tells.{Tells, frames-length}
+use Rattle.histories.specs.Laws.TellsPages.{TellsPages}
 use Rattle.demands.specs.Laws.Kept.{declare-told, fill-told, push-told, pop-told, write-told, region-told, remove-told, object-told}
 use Rattle.demands.specs.Laws.KeptPages.{same-pages, named-pages, ended-pages, placed-pages}
 
@@ -74,12 +74,12 @@ deleted-names S r = ap (λ l. set l (entryOf (regions S) r) 0) (recount-beside _
 module _ {L : Model} {sp : List ℕ} {ids : ℕ → List ℕ} {S : Store} (rep : Represents L sp ids S) where
   -- the slot then holds the pointer of the object made on page j
   shown-is : Valid L → Shaped S → {h : History} → Tells L sp h → (s i k j : ℕ) → noFrame L ≡ false → lacks (top L) s ≡ false
-      → shown h (allocated S s i k j) s ≡ 64 * j + pick (roomy S i (size S k)) (takenAt (pages S) j) 0 + 1
+      → slotAfter h (allocated S s i k j) s ≡ 64 * j + pick (roomy S i (size S k)) (takenAt (pages S) j) 0 + 1
   unfolding allocated fillSlot putSlot slotAt
   shown-is v sh {h} t s i k j n m =
       let e : length (h .frames) - 1 ≡ topFrame (frames S) = ap (λ n. n - 1) (frames-length t) ∙ sym (top-frame (rep .onFrames)) in
       let b : 8 * topFrame (frames S) + s < length ((frames S) .slots) =
-      omega (arith, top-frame (rep .onFrames), v .frames .many, eqb-false (length (L .frames)) 0 n, leb-false (length (top L)) s m, frame-small (L .frames) (v .frames .sized) (last (L .frames)), sh .inFrames .slots .0) in
+      omega (arith, top-frame (rep .onFrames), v .frames .many, eqb-false (length (L .frames)) 0 n, leb-false (length (top L)) s m, frame-small (L .frames) (v .frames .sized) (topPlace (L .frames)), sh .inFrames .slots .0) in
       rw e (getD-set-same ((frames S) .slots) (8 * topFrame (frames S) + s) _ 0 b)
 
 -- ---- accepted calls

@@ -14,11 +14,11 @@ use Rattle.lists.specs.Laws.All.{all-in}
 use Rattle.lists.specs.Laws.Finds.{every-true}
 use Rattle.model.specs.Model.{Answer, Call, gives, refusedBy}
 use Rattle.model.specs.Calls.{makes, fresh, run}
-use Rattle.model.specs.Sessions.{Row, lines, line, session, shown, table, document}
+use Rattle.model.specs.Sessions.{Row, lines, line, session, printed, table, document}
 use Rattle.model.specs.Laws.Sessions.{sessions}
 use Rattle.outcomes.specs.Store.{Store}
 use Rattle.outcomes.specs.Outcome.{MakeOutcome}
-use Rattle.refinement.specs.Runs.{Event, calls, answers, Run}
+use Rattle.outcomes.specs.Runs.{Event, calls, answers, Run}
 use Rattle.demands.specs.Demands.{Demand2, TableHolds}
 use Rattle.demands.specs.Laws.Demand2.{demand2}
 
@@ -40,7 +40,7 @@ run-prints heap a S o es T r none = by-test (makes (length heap))
 
 -- a row whose make is refused has no calls
 abbrev stops : Row → Bool
-stops r = makes (r .words) || eqb (length (r .calls)) 0
+stops r = makes (r .lent) || eqb (length (r .calls)) 0
 
 all-stop : every stops table ≡ true
 all-stop = refl
@@ -50,7 +50,7 @@ no-answers [] e = refl
 no-answers (x ∷ es) e = absurd (omega (arith, e))
 
 pub table-holds : TableHolds
-unfolding TableHolds shown
+unfolding TableHolds printed
 table-holds k l heap a S e o es T r c =
     ap (drop (getD table k document .skip)) (run-prints heap a S o es T r none ∙ ap₂ session e c) ∙ sessions k l
   where

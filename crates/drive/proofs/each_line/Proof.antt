@@ -5,7 +5,7 @@ use native.Mathlib.Omega.{arith}
 use lib.ListN.{length, drop}
 use borrow.Author.Needs.{needs}
 use Rattle.outcomes.specs.Outcome.{store}
-use Rattle.refinement.specs.Runs.{Event, calls, Run, done}
+use Rattle.outcomes.specs.Runs.{Event, calls, Run, done}
 use Rattle.drive.specs.Scripted.{scripted, callsOf}
 use Rattle.drive.proofs.Laws.{scripted-next, scripted-end, called-next}
 use Rattle.drive.proofs.each_line.Statement.{statement}

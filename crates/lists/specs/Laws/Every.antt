@@ -8,7 +8,7 @@ use native.Mathlib.Omega.{arith}
 use borrow.Author.Count.{below-none, below-more}
 use Rattle.lists.specs.Lists.{pick, every, keep, equal, All, joined, upTo}
 use Rattle.lists.specs.Laws.Tests.{both, by-test}
-use Rattle.lists.specs.Laws.Finds.{every-append}
+use Rattle.lists.specs.Laws.Finds.{every-append, every-same}
 use Rattle.lists.specs.Laws.UpTo.{all-upTo, every-each, each-every}
 
 module _ {A B : Type 0} where
@@ -41,10 +41,6 @@ module _ {A : Type 0} where
           → every f (pick (not b) (x ∷ keep (λ x. not (g x)) xs) (keep (λ x. not (g x)) xs)) ≡ ((b || f x) && every (λ x. g x || f x) xs)
       go true e = e
       go false e = ap (λ b. f x && b) e
-
-  pub every-same : (f g : A → Bool) (l : List A) → All (λ x. f x ≡ g x) l → every f l ≡ every g l
-  every-same f g [] h = refl
-  every-same f g (x ∷ xs) h = ap₂ _&&_ (h .0) (every-same f g xs (h .1))
 
 pub every-below : (f g : ℕ → Bool) (n : ℕ) → ((i : ℕ) → i < n → f i ≡ g i) → every f (upTo n) ≡ every g (upTo n)
 every-below f g n h = every-same f g (upTo n) (all-upTo (λ i. f i ≡ g i) n h)

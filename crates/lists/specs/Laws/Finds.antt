@@ -9,78 +9,78 @@ use native.Mathlib.Omega.{arith}
 use lib.Dec.{eqb, ltb}
 use lib.ListN.{length, getD}
 use borrow.Author.Tests.{eqb-true, ltb-true, ltb-false, lt-ltb}
-use Rattle.lists.specs.Lists.{bit, pick, any, every, keep, find, sum, count, times, All, joined}
+use Rattle.lists.specs.Lists.{bit, pick, anyOf, every, keep, findOr, sumOf, countOf, times, All, joined}
 use Rattle.lists.specs.Laws.Tests.{neither, both, by-test, bit-zero, pick-same}
 use Rattle.lists.specs.Laws.All.{all-map, all-in}
 use Rattle.lists.specs.Laws.Sums.{sum-keep, sum-map, sum-pick, sum-plus, sum-zero}
 
 module _ {A : Type 0} where
-  pub any-append : (f : A → Bool) (l r : List A) → any f (l ++ r) ≡ (any f l || any f r)
+  pub any-append : (f : A → Bool) (l r : List A) → anyOf f (l ++ r) ≡ (anyOf f l || anyOf f r)
   any-append f [] r = refl
   any-append f (x ∷ xs) r = go (f x) (any-append f xs r)
     where
-      go : (b : Bool) → any f (xs ++ r) ≡ (any f xs || any f r) → (b || any f (xs ++ r)) ≡ (b || any f xs || any f r)
+      go : (b : Bool) → anyOf f (xs ++ r) ≡ (anyOf f xs || anyOf f r) → (b || anyOf f (xs ++ r)) ≡ (b || anyOf f xs || anyOf f r)
       go true e = refl
       go false e = e
 
-  pub find-append : (f : A → Bool) (d : A) (l r : List A) → find f d (l ++ r) ≡ pick (any f l) (find f d l) (find f d r)
+  pub find-append : (f : A → Bool) (d : A) (l r : List A) → findOr f d (l ++ r) ≡ pick (anyOf f l) (findOr f d l) (findOr f d r)
   find-append f d [] r = refl
   find-append f d (x ∷ xs) r = go (f x) (find-append f d xs r)
     where
-      go : (b : Bool) → find f d (xs ++ r) ≡ pick (any f xs) (find f d xs) (find f d r) → pick b x (find f d (xs ++ r)) ≡ pick (b || any f xs) (pick b x (find f d xs)) (find f d r)
+      go : (b : Bool) → findOr f d (xs ++ r) ≡ pick (anyOf f xs) (findOr f d xs) (findOr f d r) → pick b x (findOr f d (xs ++ r)) ≡ pick (b || anyOf f xs) (pick b x (findOr f d xs)) (findOr f d r)
       go true e = refl
       go false e = e
 
   -- what is found passes
-  pub find-passes : (f : A → Bool) (d : A) (l : List A) → any f l ≡ true → f (find f d l) ≡ true
+  pub find-passes : (f : A → Bool) (d : A) (l : List A) → anyOf f l ≡ true → f (findOr f d l) ≡ true
   find-passes f d [] e = absurd (false≢true e)
   find-passes f d (x ∷ xs) e = go (f x) refl e (find-passes f d xs)
     where
-      go : (b : Bool) → f x ≡ b → (b || any f xs) ≡ true → (any f xs ≡ true → f (find f d xs) ≡ true) → f (pick b x (find f d xs)) ≡ true
+      go : (b : Bool) → f x ≡ b → (b || anyOf f xs) ≡ true → (anyOf f xs ≡ true → f (findOr f d xs) ≡ true) → f (pick b x (findOr f d xs)) ≡ true
       go true q e h = q
       go false q e h = h e
 
-  pub all-find : (P : A → Type 0) (f : A → Bool) (d : A) (l : List A) → All P l → P d → P (find f d l)
+  pub all-find : (P : A → Type 0) (f : A → Bool) (d : A) (l : List A) → All P l → P d → P (findOr f d l)
   all-find P f d [] h p = p
   all-find P f d (x ∷ xs) h p = go (f x) (all-find P f d xs (h .1) p)
     where
-      go : (b : Bool) → P (find f d xs) → P (pick b x (find f d xs))
+      go : (b : Bool) → P (findOr f d xs) → P (pick b x (findOr f d xs))
       go true q = h .0
       go false q = q
 
-  pub all-found : (P : A → Type 0) (f : A → Bool) (d : A) (l : List A) → All P l → any f l ≡ true → P (find f d l)
+  pub all-found : (P : A → Type 0) (f : A → Bool) (d : A) (l : List A) → All P l → anyOf f l ≡ true → P (findOr f d l)
   all-found P f d [] h e = absurd (false≢true e)
   all-found P f d (x ∷ xs) h e = go (f x) e (all-found P f d xs (h .1))
     where
-      go : (b : Bool) → (b || any f xs) ≡ true → (any f xs ≡ true → P (find f d xs)) → P (pick b x (find f d xs))
+      go : (b : Bool) → (b || anyOf f xs) ≡ true → (anyOf f xs ≡ true → P (findOr f d xs)) → P (pick b x (findOr f d xs))
       go true e k = h .0
       go false e k = k e
 
   -- an element that passes f is kept
-  pub any-keep : (f g : A → Bool) → ((x : A) → f x ≡ true → g x ≡ true) → (l : List A) → any f (keep g l) ≡ any f l
+  pub any-keep : (f g : A → Bool) → ((x : A) → f x ≡ true → g x ≡ true) → (l : List A) → anyOf f (keep g l) ≡ anyOf f l
   any-keep f g k [] = refl
   any-keep f g k (x ∷ xs) = go (g x) refl (f x) refl (any-keep f g k xs)
     where
-      go : (b : Bool) → g x ≡ b → (c : Bool) → f x ≡ c → any f (keep g xs) ≡ any f xs → any f (pick b (x ∷ keep g xs) (keep g xs)) ≡ (c || any f xs)
+      go : (b : Bool) → g x ≡ b → (c : Bool) → f x ≡ c → anyOf f (keep g xs) ≡ anyOf f xs → anyOf f (pick b (x ∷ keep g xs) (keep g xs)) ≡ (c || anyOf f xs)
       go true p c q e = rw (q, e)
       go false p true q e = absurd (false≢true (sym p ∙ k x q))
       go false p false q e = e
 
-  pub find-keep : (f g : A → Bool) (d : A) → ((x : A) → f x ≡ true → g x ≡ true) → (l : List A) → find f d (keep g l) ≡ find f d l
+  pub find-keep : (f g : A → Bool) (d : A) → ((x : A) → f x ≡ true → g x ≡ true) → (l : List A) → findOr f d (keep g l) ≡ findOr f d l
   find-keep f g d k [] = refl
   find-keep f g d k (x ∷ xs) = go (g x) refl (f x) refl (find-keep f g d k xs)
     where
-      go : (b : Bool) → g x ≡ b → (c : Bool) → f x ≡ c → find f d (keep g xs) ≡ find f d xs → find f d (pick b (x ∷ keep g xs) (keep g xs)) ≡ pick c x (find f d xs)
+      go : (b : Bool) → g x ≡ b → (c : Bool) → f x ≡ c → findOr f d (keep g xs) ≡ findOr f d xs → findOr f d (pick b (x ∷ keep g xs) (keep g xs)) ≡ pick c x (findOr f d xs)
       go true p c q e = rw (q, e)
       go false p true q e = absurd (false≢true (sym p ∙ k x q))
       go false p false q e = e
 
   -- nothing that is thrown out is found
-  pub any-thrown : (f g : A → Bool) → ((x : A) → f x ≡ true → g x ≡ false) → (l : List A) → any f (keep g l) ≡ false
+  pub any-thrown : (f g : A → Bool) → ((x : A) → f x ≡ true → g x ≡ false) → (l : List A) → anyOf f (keep g l) ≡ false
   any-thrown f g k [] = refl
   any-thrown f g k (x ∷ xs) = go (g x) refl (f x) refl (any-thrown f g k xs)
     where
-      go : (b : Bool) → g x ≡ b → (c : Bool) → f x ≡ c → any f (keep g xs) ≡ false → any f (pick b (x ∷ keep g xs) (keep g xs)) ≡ false
+      go : (b : Bool) → g x ≡ b → (c : Bool) → f x ≡ c → anyOf f (keep g xs) ≡ false → anyOf f (pick b (x ∷ keep g xs) (keep g xs)) ≡ false
       go true p true q e = absurd (true≢false (sym p ∙ k x q))
       go true p false q e = rw (q, e)
       go false p c q e = e
@@ -107,11 +107,11 @@ module _ {A : Type 0} where
       go false e = e
 
   -- the tests over a list and what they say of its elements
-  pub any-false : (f : A → Bool) (l : List A) → any f l ≡ false → All (λ x. f x ≡ false) l
+  pub any-false : (f : A → Bool) (l : List A) → anyOf f l ≡ false → All (λ x. f x ≡ false) l
   any-false f [] e = tt
-  any-false f (x ∷ xs) e = let q = neither (f x) (any f xs) e in (q .0, any-false f xs (q .1))
+  any-false f (x ∷ xs) e = let q = neither (f x) (anyOf f xs) e in (q .0, any-false f xs (q .1))
 
-  pub false-any : (f : A → Bool) (l : List A) → All (λ x. f x ≡ false) l → any f l ≡ false
+  pub false-any : (f : A → Bool) (l : List A) → All (λ x. f x ≡ false) l → anyOf f l ≡ false
   false-any f [] h = refl
   false-any f (x ∷ xs) h = rw (h .0, false-any f xs (h .1))
 
@@ -124,7 +124,7 @@ module _ {A : Type 0} where
   true-every f (x ∷ xs) h = rw (h .0, true-every f xs (h .1))
 
   -- none passes of fewer
-  pub any-fewer : (f g : A → Bool) (l : List A) → any f l ≡ false → any f (keep g l) ≡ false
+  pub any-fewer : (f g : A → Bool) (l : List A) → anyOf f l ≡ false → anyOf f (keep g l) ≡ false
   any-fewer f g l e = false-any f (keep g l) (all-map (λ x h. h .0) (keep g l) (all-keep (λ x. f x ≡ false) g l (any-false f l e)))
 
   -- tests that agree on the list's elements
@@ -133,68 +133,68 @@ module _ {A : Type 0} where
   every-same f g (x ∷ xs) h = ap₂ _&&_ (h .0) (every-same f g xs (h .1))
 
   -- an element that passes
-  pub any-in : (f : A → Bool) (l : List A) (i : ℕ) (d : A) → i < length l → f (getD l i d) ≡ true → any f l ≡ true
-  any-in f l i d h e = by-test (any f l) (λ t. t) (λ t. absurd (true≢false (sym e ∙ all-in (λ x. f x ≡ false) l i d (any-false f l t) h)))
+  pub any-in : (f : A → Bool) (l : List A) (i : ℕ) (d : A) → i < length l → f (getD l i d) ≡ true → anyOf f l ≡ true
+  any-in f l i d h e = by-test (anyOf f l) (λ t. t) (λ t. absurd (true≢false (sym e ∙ all-in (λ x. f x ≡ false) l i d (any-false f l t) h)))
 
-  pub find-none : (f : A → Bool) (d : A) (l : List A) → any f l ≡ false → find f d l ≡ d
+  pub find-none : (f : A → Bool) (d : A) (l : List A) → anyOf f l ≡ false → findOr f d l ≡ d
   find-none f d [] e = refl
-  find-none f d (x ∷ xs) e = let q = neither (f x) (any f xs) e in rw (q .0, find-none f d xs (q .1))
+  find-none f d (x ∷ xs) e = let q = neither (f x) (anyOf f xs) e in rw (q .0, find-none f d xs (q .1))
 
   -- some element has a value that is not 0 where their sum is not 0
-  pub any-sum : (f : A → ℕ) (l : List A) → any (λ x. ltb 0 (f x)) l ≡ ltb 0 (sum f l)
+  pub any-sum : (f : A → ℕ) (l : List A) → anyOf (λ x. ltb 0 (f x)) l ≡ ltb 0 (sumOf f l)
   any-sum f [] = refl
   any-sum f (x ∷ xs) = rw (any-sum f xs) (by-test (ltb 0 (f x))
-      (λ e. rw e (sym (lt-ltb 0 (f x + sum f xs) (omega (arith, ltb-true 0 (f x) e)))))
-      (λ e. let z : f x + sum f xs ≡ sum f xs = omega (arith, ltb-false 0 (f x) e) in rw (z, e)))
+      (λ e. rw e (sym (lt-ltb 0 (f x + sumOf f xs) (omega (arith, ltb-true 0 (f x) e)))))
+      (λ e. let z : f x + sumOf f xs ≡ sumOf f xs = omega (arith, ltb-false 0 (f x) e) in rw (z, e)))
 
   -- some element passes where their number is not 0
-  pub any-count : (f : A → Bool) (l : List A) → any f l ≡ ltb 0 (count f l)
-  any-count f l = ap (λ g. any g l) (fun-ext (λ x. go (f x))) ∙ any-sum (λ x. bit (f x)) l
+  pub any-count : (f : A → Bool) (l : List A) → anyOf f l ≡ ltb 0 (countOf f l)
+  any-count f l = ap (λ g. anyOf g l) (fun-ext (λ x. go (f x))) ∙ any-sum (λ x. bit (f x)) l
     where
       go : (b : Bool) → b ≡ ltb 0 (bit b)
       go true = refl
       go false = refl
 
   -- none passes
-  pub sum-none : (t : A → Bool) (f : A → ℕ) (l : List A) → All (λ x. t x ≡ false) l → sum (λ x. pick (t x) (f x) 0) l ≡ 0
+  pub sum-none : (t : A → Bool) (f : A → ℕ) (l : List A) → All (λ x. t x ≡ false) l → sumOf (λ x. pick (t x) (f x) 0) l ≡ 0
   sum-none t f [] h = refl
   sum-none t f (x ∷ xs) h = rw (h .0) (omega (arith, sum-none t f xs (h .1)))
 
   -- one passes: it is the one found
-  pub sum-one : (t : A → Bool) (f : A → ℕ) (d : A) (l : List A) → count t l ≡ 1 → sum (λ x. pick (t x) (f x) 0) l ≡ f (find t d l)
+  pub sum-one : (t : A → Bool) (f : A → ℕ) (d : A) (l : List A) → countOf t l ≡ 1 → sumOf (λ x. pick (t x) (f x) 0) l ≡ f (findOr t d l)
   sum-one t f d [] e = absurd (omega arith)
   sum-one t f d (x ∷ xs) e = go (t x) e (sum-one t f d xs)
     where
-      go : (b : Bool) → bit b + count t xs ≡ 1 → (count t xs ≡ 1 → sum (λ x. pick (t x) (f x) 0) xs ≡ f (find t d xs))
-          → pick b (f x) 0 + sum (λ x. pick (t x) (f x) 0) xs ≡ f (pick b x (find t d xs))
+      go : (b : Bool) → bit b + countOf t xs ≡ 1 → (countOf t xs ≡ 1 → sumOf (λ x. pick (t x) (f x) 0) xs ≡ f (findOr t d xs))
+          → pick b (f x) 0 + sumOf (λ x. pick (t x) (f x) 0) xs ≡ f (pick b x (findOr t d xs))
       go true e h = omega (arith, sum-none t f xs (all-map (λ x z. bit-zero (t x) z) xs (sum-zero (λ x. bit (t x)) xs (omega arith))))
       go false e h = omega (arith, h (omega arith))
 
   -- it goes, or changes by h
-  pub sum-without : (t : A → Bool) (f : A → ℕ) (d : A) (l : List A) → count t l ≡ 1 → sum f (keep (λ x. not (t x)) l) + f (find t d l) ≡ sum f l
-  sum-without t f d l e = rw (sum-keep f (λ x. not (t x)) l, sym (sum-one t f d l e)) (sym (sum-plus _ _ l) ∙ ap (λ f. sum f l) (fun-ext (λ x. go (t x) (f x))))
+  pub sum-without : (t : A → Bool) (f : A → ℕ) (d : A) (l : List A) → countOf t l ≡ 1 → sumOf f (keep (λ x. not (t x)) l) + f (findOr t d l) ≡ sumOf f l
+  sum-without t f d l e = rw (sum-keep f (λ x. not (t x)) l, sym (sum-one t f d l e)) (sym (sum-plus _ _ l) ∙ ap (λ f. sumOf f l) (fun-ext (λ x. go (t x) (f x))))
     where
       go : (b : Bool) (n : ℕ) → pick (not b) n 0 + pick b n 0 ≡ n
       go true n = omega arith
       go false n = omega arith
 
-  pub sum-instead : (t : A → Bool) (h : A → A) (f : A → ℕ) (d : A) (l : List A) → count t l ≡ 1
-      → sum f (map (λ x. pick (t x) (h x) x) l) + f (find t d l) ≡ sum f l + f (h (find t d l))
+  pub sum-instead : (t : A → Bool) (h : A → A) (f : A → ℕ) (d : A) (l : List A) → countOf t l ≡ 1
+      → sumOf f (map (λ x. pick (t x) (h x) x) l) + f (findOr t d l) ≡ sumOf f l + f (h (findOr t d l))
   sum-instead t h f d l e = rw (sum-map f (λ x. pick (t x) (h x) x) l, sym (sum-one t f d l e), sym (sum-one t (λ x. f (h x)) d l e))
-      (sym (sum-plus _ _ l) ∙ ap (λ f. sum f l) (fun-ext (λ x. go (t x) x)) ∙ sum-plus _ _ l)
+      (sym (sum-plus _ _ l) ∙ ap (λ f. sumOf f l) (fun-ext (λ x. go (t x) x)) ∙ sum-plus _ _ l)
     where
       go : (b : Bool) (x : A) → f (pick b (h x) x) + pick b (f x) 0 ≡ f x + pick b (f (h x)) 0
       go true x = omega arith
       go false x = omega arith
 
 module _ {A B : Type 0} where
-  pub any-map : (f : B → Bool) (g : A → B) (l : List A) → any f (map g l) ≡ any (λ x. f (g x)) l
+  pub any-map : (f : B → Bool) (g : A → B) (l : List A) → anyOf f (map g l) ≡ anyOf (λ x. f (g x)) l
   any-map f g [] = refl
   any-map f g (x ∷ xs) = ap (λ b. f (g x) || b) (any-map f g xs)
 
-  pub any-joined : (f : B → Bool) (g : A → List B) (l : List A) → any f (joined g l) ≡ any (λ x. any f (g x)) l
+  pub any-joined : (f : B → Bool) (g : A → List B) (l : List A) → anyOf f (joined g l) ≡ anyOf (λ x. anyOf f (g x)) l
   any-joined f g [] = refl
-  any-joined f g (x ∷ xs) = any-append f (g x) (joined g xs) ∙ ap (λ b. any f (g x) || b) (any-joined f g xs)
+  any-joined f g (x ∷ xs) = any-append f (g x) (joined g xs) ∙ ap (λ b. anyOf f (g x) || b) (any-joined f g xs)
 
   pub joined-append : (g : A → List B) (l r : List A) → joined g (l ++ r) ≡ joined g l ++ joined g r
   joined-append g [] r = refl
@@ -212,7 +212,7 @@ module _ {A B : Type 0} where
 
 -- a number is kept if it passes
 pub times-keep : (n : ℕ) (f : ℕ → Bool) (l : List ℕ) → times n (keep f l) ≡ pick (f n) (times n l) 0
-times-keep n f l = sum-keep (λ x. bit (eqb x n)) f l ∙ ap (λ g. sum g l) (fun-ext (λ x. go x (eqb x n) refl)) ∙ sum-pick (f n) (λ x. bit (eqb x n)) l
+times-keep n f l = sum-keep (λ x. bit (eqb x n)) f l ∙ ap (λ g. sumOf g l) (fun-ext (λ x. go x (eqb x n) refl)) ∙ sum-pick (f n) (λ x. bit (eqb x n)) l
   where
     go : (x : ℕ) (b : Bool) → eqb x n ≡ b → pick (f x) (bit (eqb x n)) 0 ≡ pick (f n) (bit (eqb x n)) 0
     go x true e = rw (eqb-true x n e)

@@ -9,7 +9,7 @@ use native.Mathlib.Omega.{arith}
 use lib.Dec.{eqb, leb}
 use lib.ListN.{length, getD}
 use borrow.Author.Tests.{leb-true, leb-false, eqb-true, eq-eqb, ne-eqb}
-use Rattle.lists.specs.Lists.{pick, any, keep, find, sum, All, All₂, joined, from, upTo, among}
+use Rattle.lists.specs.Lists.{pick, anyOf, keep, findOr, sumOf, All, All₂, joined, from, upTo, among}
 use Rattle.lists.specs.Laws.Tests.{by-test, or-right}
 use Rattle.lists.specs.Laws.All.{all-map, all-append}
 use Rattle.lists.specs.Laws.Finds.{all-keep, map-append}
@@ -33,11 +33,11 @@ module _ {A B : Type 0} where
   map-all P f [] h = tt
   map-all P f (x ∷ xs) h = (h .0, map-all P f xs (h .1))
 
-  pub find-map : (f : B → Bool) (g : A → B) (d : A) (l : List A) → find f (g d) (map g l) ≡ g (find (λ x. f (g x)) d l)
+  pub find-map : (f : B → Bool) (g : A → B) (d : A) (l : List A) → findOr f (g d) (map g l) ≡ g (findOr (λ x. f (g x)) d l)
   find-map f g d [] = refl
   find-map f g d (x ∷ xs) = go (f (g x)) (find-map f g d xs)
     where
-      go : (b : Bool) → find f (g d) (map g xs) ≡ g (find (λ x. f (g x)) d xs) → pick b (g x) (find f (g d) (map g xs)) ≡ g (pick b x (find (λ x. f (g x)) d xs))
+      go : (b : Bool) → findOr f (g d) (map g xs) ≡ g (findOr (λ x. f (g x)) d xs) → pick b (g x) (findOr f (g d) (map g xs)) ≡ g (pick b x (findOr (λ x. f (g x)) d xs))
       go true e = refl
       go false e = e
 
@@ -47,12 +47,12 @@ module _ {A B : Type 0} where
   all₂-each P (x ∷ xs) (y ∷ ys) d e h = (h 0 (omega arith) (omega arith), all₂-each P xs ys d e (λ i k l. h (suc i) (omega arith) (omega arith)))
 
   -- what is found among changed elements is the change of what is found; any default will do where one passes
-  pub find-changed : (f : B → Bool) (g : A → B) (d : B) (e : A) (l : List A) → any (λ x. f (g x)) l ≡ true → find f d (map g l) ≡ g (find (λ x. f (g x)) e l)
+  pub find-changed : (f : B → Bool) (g : A → B) (d : B) (e : A) (l : List A) → anyOf (λ x. f (g x)) l ≡ true → findOr f d (map g l) ≡ g (findOr (λ x. f (g x)) e l)
   find-changed f g d e [] h = absurd (false≢true h)
   find-changed f g d e (x ∷ xs) h = go (f (g x)) h (find-changed f g d e xs)
     where
-      go : (b : Bool) → (b || any (λ x. f (g x)) xs) ≡ true → (any (λ x. f (g x)) xs ≡ true → find f d (map g xs) ≡ g (find (λ x. f (g x)) e xs))
-          → pick b (g x) (find f d (map g xs)) ≡ g (pick b x (find (λ x. f (g x)) e xs))
+      go : (b : Bool) → (b || anyOf (λ x. f (g x)) xs) ≡ true → (anyOf (λ x. f (g x)) xs ≡ true → findOr f d (map g xs) ≡ g (findOr (λ x. f (g x)) e xs))
+          → pick b (g x) (findOr f d (map g xs)) ≡ g (pick b x (findOr (λ x. f (g x)) e xs))
       go true h ih = refl
       go false h ih = ih h
 
@@ -74,7 +74,7 @@ module _ {A B C : Type 0} where
       go true e = ap (λ r. f (h x) ++ r) e
       go false e = e
 
-pub sum-later : (f : ℕ → ℕ) (k n : ℕ) → sum f (from (suc k) n) ≡ sum (λ i. f (suc i)) (from k n)
+pub sum-later : (f : ℕ → ℕ) (k n : ℕ) → sumOf f (from (suc k) n) ≡ sumOf (λ i. f (suc i)) (from k n)
 sum-later f k zero = refl
 sum-later f k (suc n) = ap (λ x. f (suc k) + x) (sum-later f (suc k) n)
 
@@ -93,11 +93,11 @@ module _ {A : Type 0} where
   all-places P (x ∷ xs) d h = (h 0 (omega arith), all-places P xs d (λ i k. h (suc i) (omega arith)))
 
   -- an element that passes stands somewhere
-  pub any-index : (f : A → Bool) (l : List A) (d : A) → any f l ≡ true → (i : ℕ) × (i < length l) × (f (getD l i d) ≡ true)
+  pub any-index : (f : A → Bool) (l : List A) (d : A) → anyOf f l ≡ true → (i : ℕ) × (i < length l) × (f (getD l i d) ≡ true)
   any-index f [] d e = absurd (false≢true e)
   any-index f (x ∷ xs) d e = go (f x) refl e (any-index f xs d)
     where
-      go : (b : Bool) → f x ≡ b → (b || any f xs) ≡ true → (any f xs ≡ true → (i : ℕ) × (i < length xs) × (f (getD xs i d) ≡ true)) → (i : ℕ) × (i < suc (length xs)) × (f (getD (x ∷ xs) i d) ≡ true)
+      go : (b : Bool) → f x ≡ b → (b || anyOf f xs) ≡ true → (anyOf f xs ≡ true → (i : ℕ) × (i < length xs) × (f (getD xs i d) ≡ true)) → (i : ℕ) × (i < suc (length xs)) × (f (getD (x ∷ xs) i d) ≡ true)
       go true q e ih = (0, omega arith, q)
       go false q e ih = let t = ih e in (suc (t .0), omega (arith, t .1), t .2)
 
@@ -123,30 +123,30 @@ module _ (P : ℕ → Type 0) (g : ℕ → Bool) (n : ℕ) where
 -- ---- sums
 
 -- only one number counts
-pub sum-single : (f : ℕ → ℕ) (n k : ℕ) → k < n → ((i : ℕ) → i ≢ k → f i ≡ 0) → sum f (upTo n) ≡ f k
+pub sum-single : (f : ℕ → ℕ) (n k : ℕ) → k < n → ((i : ℕ) → i ≢ k → f i ≡ 0) → sumOf f (upTo n) ≡ f k
 sum-single f n k h z = omega (arith, sum-change f (λ i. 0) n k h (λ i l d. z i d), sum-pick false (λ (i : ℕ). 0) (upTo n))
 
 -- f of one number below n, and of two, is part of the sum
 without : (ℕ → ℕ) → ℕ → ℕ → ℕ
 without f k i = pick (eqb i k) 0 (f i)
 
-sum-without : (f : ℕ → ℕ) (n k : ℕ) → k < n → sum f (upTo n) ≡ sum (without f k) (upTo n) + f k
+sum-without : (f : ℕ → ℕ) (n k : ℕ) → k < n → sumOf f (upTo n) ≡ sumOf (without f k) (upTo n) + f k
 unfolding without
 sum-without f n k h =
     let e : without f k k ≡ 0 = rw (eq-eqb k k refl) in
     omega (arith, e, sum-change f (without f k) n k h (λ i l d. rw (ne-eqb i k d)))
 
-pub sum-one : (f : ℕ → ℕ) (n i : ℕ) → i < n → f i ≤ sum f (upTo n)
+pub sum-one : (f : ℕ → ℕ) (n i : ℕ) → i < n → f i ≤ sumOf f (upTo n)
 sum-one f n i h = omega (arith, sum-without f n i h)
 
-pub sum-two : (f : ℕ → ℕ) (n i k : ℕ) → i < n → k < n → i ≢ k → f i + f k ≤ sum f (upTo n)
+pub sum-two : (f : ℕ → ℕ) (n i k : ℕ) → i < n → k < n → i ≢ k → f i + f k ≤ sumOf f (upTo n)
 unfolding without
 sum-two f n i k h l d =
     let e : without f k i ≡ f i = rw (ne-eqb i k d) in
     omega (arith, e, sum-without f n k l, sum-one (without f k) n i h)
 
 -- the numbers below m, and those from m on
-pub sum-above : (f : ℕ → ℕ) (m n : ℕ) → sum f (upTo n) ≡ sum f (upTo (min m n)) + sum (λ i. pick (leb m i) (f i) 0) (upTo n)
+pub sum-above : (f : ℕ → ℕ) (m n : ℕ) → sumOf f (upTo n) ≡ sumOf f (upTo (min m n)) + sumOf (λ i. pick (leb m i) (f i) 0) (upTo n)
 sum-above f m zero = let e : min m 0 ≡ 0 = omega arith in rw e
 sum-above f m (suc n) = by-test (leb m n)
     (λ t. let e : min m (suc n) ≡ min m n = omega (arith, leb-true m n t) in rw (sum-suc f n, sum-suc (λ i. pick (leb m i) (f i) 0) n, t, e) (omega (arith, sum-above f m n)))
@@ -156,11 +156,11 @@ sum-above f m (suc n) = by-test (leb m n)
     rw (e, sum-suc f n, sum-suc (λ i. pick (leb m i) (f i) 0) n, t) (omega (arith, rw d at (sum-above f m n))))
 
 -- f is at most g below n, and at k there are c left over
-sum-under : (f g : ℕ → ℕ) (n : ℕ) → ((i : ℕ) → i < n → f i ≤ g i) → sum f (upTo n) ≤ sum g (upTo n)
+sum-under : (f g : ℕ → ℕ) (n : ℕ) → ((i : ℕ) → i < n → f i ≤ g i) → sumOf f (upTo n) ≤ sumOf g (upTo n)
 sum-under f g zero h = omega arith
 sum-under f g (suc n) h = omega (arith, sum-suc f n, sum-suc g n, h n (omega arith), sum-under f g n (λ i l. h i (omega arith)))
 
-pub sum-slack : (f g : ℕ → ℕ) (n k c : ℕ) → ((i : ℕ) → i < n → f i ≤ g i) → k < n → f k + c ≤ g k → sum f (upTo n) + c ≤ sum g (upTo n)
+pub sum-slack : (f g : ℕ → ℕ) (n k c : ℕ) → ((i : ℕ) → i < n → f i ≤ g i) → k < n → f k + c ≤ g k → sumOf f (upTo n) + c ≤ sumOf g (upTo n)
 sum-slack f g n k c h l e =
     let more : ℕ → ℕ = λ i. pick (eqb i k) (f i + c) (f i) in
     let z : more k ≡ f k + c = rw (eq-eqb k k refl) in

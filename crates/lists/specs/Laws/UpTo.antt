@@ -12,7 +12,7 @@ use lib.Dec.{eqb, ltb}
 use lib.ListN.{length, getD, drop, length-map, drop-of-length-le}
 use lib.Seq.{take-length, drop-cons, slice, slice-empty, slice-cons}
 use borrow.Author.Tests.{eqb-true, eq-eqb, ne-eqb, ltb-true, ltb-false}
-use Rattle.lists.specs.Lists.{bit, pick, any, every, keep, find, sum, sum₂, count, All, joined, from, upTo}
+use Rattle.lists.specs.Lists.{bit, pick, anyOf, every, keep, findOr, sumOf, sumOf₂, countOf, All, joined, from, upTo}
 use Rattle.lists.specs.Laws.Tests.{by-test, by-same}
 use Rattle.lists.specs.Laws.All.{all-in}
 use Rattle.lists.specs.Laws.Sums.{sum-append, sum-same, sum-zero}
@@ -27,18 +27,18 @@ upTo-suc n = let e : 0 + n ≡ n = omega arith in from-last 0 n ∙ ap (λ x. up
 
 -- ---- one number more
 
-pub sum-from-suc : (f : ℕ → ℕ) (k n : ℕ) → sum f (from k (suc n)) ≡ sum f (from k n) + f (k + n)
-sum-from-suc f k n = ap (sum f) (from-last k n) ∙ omega (arith, sum-append f (from k n) ((k + n) ∷ []))
+pub sum-from-suc : (f : ℕ → ℕ) (k n : ℕ) → sumOf f (from k (suc n)) ≡ sumOf f (from k n) + f (k + n)
+sum-from-suc f k n = ap (sumOf f) (from-last k n) ∙ omega (arith, sum-append f (from k n) ((k + n) ∷ []))
 
 module _ (f : ℕ → ℕ) (n : ℕ) where
-  pub sum-suc : sum f (upTo (suc n)) ≡ sum f (upTo n) + f n
-  sum-suc = ap (sum f) (upTo-suc n) ∙ omega (arith, sum-append f (upTo n) (n ∷ []))
+  pub sum-suc : sumOf f (upTo (suc n)) ≡ sumOf f (upTo n) + f n
+  sum-suc = ap (sumOf f) (upTo-suc n) ∙ omega (arith, sum-append f (upTo n) (n ∷ []))
 
-  pub sum-next : sum f (upTo (n + 1)) ≡ sum f (upTo n) + f n
-  sum-next = ap (λ m. sum f (upTo m)) (add-one n) ∙ sum-suc
+  pub sum-next : sumOf f (upTo (n + 1)) ≡ sumOf f (upTo n) + f n
+  sum-next = ap (λ m. sumOf f (upTo m)) (add-one n) ∙ sum-suc
 
 module _ (f : ℕ → Bool) (n : ℕ) where
-  pub count-next : count f (upTo (n + 1)) ≡ count f (upTo n) + bit (f n)
+  pub count-next : countOf f (upTo (n + 1)) ≡ countOf f (upTo n) + bit (f n)
   count-next = sum-next (λ x. bit (f x)) n
 
   pub keep-suc : keep f (upTo (suc n)) ≡ keep f (upTo n) ++ pick (f n) (n ∷ []) []
@@ -95,12 +95,12 @@ length-map-upTo f n = length-map (upTo n) f ∙ length-upTo n
 -- ---- the elements at the places of a list, added up or tested
 
 -- at the places from k up to m
-pub sum-part : {A : Type 0} (f : A → ℕ) (l : List A) (d : A) (k n m : ℕ) → k + n ≡ m → m ≤ length l → sum (λ i. f (getD l i d)) (from k n) ≡ sum f (slice k m l)
+pub sum-part : {A : Type 0} (f : A → ℕ) (l : List A) (d : A) (k n m : ℕ) → k + n ≡ m → m ≤ length l → sumOf (λ i. f (getD l i d)) (from k n) ≡ sumOf f (slice k m l)
 sum-part f l d k zero m e h = let q : m ≡ k = omega arith in rw (q, slice-empty k l)
 sum-part f l d k (suc n) m e h = rw (slice-cons k m l d (omega arith) h) (ap (λ x. f (getD l k d) + x) (sum-part f l d (suc k) n m (omega arith) h))
 
-pub sum-places : {A : Type 0} (f : A → ℕ) (l : List A) (d : A) → sum (λ i. f (getD l i d)) (upTo (length l)) ≡ sum f l
-sum-places f l d = sum-part f l d 0 (length l) (length l) (omega arith) (omega arith) ∙ ap (sum f) (take-length l)
+pub sum-places : {A : Type 0} (f : A → ℕ) (l : List A) (d : A) → sumOf (λ i. f (getD l i d)) (upTo (length l)) ≡ sumOf f l
+sum-places f l d = sum-part f l d 0 (length l) (length l) (omega arith) (omega arith) ∙ ap (sumOf f) (take-length l)
 
 every-part : {A : Type 0} (f : A → Bool) (l : List A) (d : A) (k n : ℕ) → k + n ≡ length l → every (λ i. f (getD l i d)) (from k n) ≡ every f (drop k l)
 every-part f l d k zero h = rw (drop-of-length-le l {i = k} (omega arith))
@@ -110,13 +110,13 @@ pub every-places : {A : Type 0} (f : A → Bool) (l : List A) (d : A) → every 
 every-places f l d = every-part f l d 0 (length l) (omega arith)
 
 module _ {A B : Type 0} (f : A → B → ℕ) (xs : List A) (ys : List B) (d : A) (e : B) where
-  sum₂-part : (k n : ℕ) → k + n ≡ length xs → k + n ≡ length ys → sum (λ i. f (getD xs i d) (getD ys i e)) (from k n) ≡ sum₂ f (drop k xs) (drop k ys)
+  sum₂-part : (k n : ℕ) → k + n ≡ length xs → k + n ≡ length ys → sumOf (λ i. f (getD xs i d) (getD ys i e)) (from k n) ≡ sumOf₂ f (drop k xs) (drop k ys)
   sum₂-part k zero a b = rw (drop-of-length-le xs {i = k} (omega arith))
   sum₂-part k (suc n) a b =
       rw (drop-cons xs k d (omega arith), drop-cons ys k e (omega arith))
       (ap (λ m. f (getD xs k d) (getD ys k e) + m) (sum₂-part (suc k) n (omega arith) (omega arith)))
 
-  pub sum₂-places : length ys ≡ length xs → sum (λ i. f (getD xs i d) (getD ys i e)) (upTo (length xs)) ≡ sum₂ f xs ys
+  pub sum₂-places : length ys ≡ length xs → sumOf (λ i. f (getD xs i d) (getD ys i e)) (upTo (length xs)) ≡ sumOf₂ f xs ys
   sum₂-places h = sum₂-part 0 (length xs) (omega arith) (omega arith)
 
 -- ---- what holds of each number below n
@@ -139,30 +139,30 @@ module _ (f : ℕ → Bool) (n : ℕ) where
   pub each-every : ((i : ℕ) → i < n → f i ≡ true) → every f (upTo n) ≡ true
   each-every h = true-every f (upTo n) (all-upTo (λ i. f i ≡ true) n h)
 
-  pub none-any : ((i : ℕ) → i < n → f i ≡ false) → any f (upTo n) ≡ false
+  pub none-any : ((i : ℕ) → i < n → f i ≡ false) → anyOf f (upTo n) ≡ false
   none-any h = false-any f (upTo n) (all-upTo (λ i. f i ≡ false) n h)
 
-  pub any-one : (i : ℕ) → i < n → f i ≡ true → any f (upTo n) ≡ true
+  pub any-one : (i : ℕ) → i < n → f i ≡ true → anyOf f (upTo n) ≡ true
   any-one i h e = any-in f (upTo n) i 0 (rw (length-upTo n) h) (rw (getD-upTo n i h) e)
 
 -- ---- sums of two functions
 
 -- that are equal below n
-pub sum-below : (f g : ℕ → ℕ) (n : ℕ) → ((i : ℕ) → i < n → f i ≡ g i) → sum f (upTo n) ≡ sum g (upTo n)
+pub sum-below : (f g : ℕ → ℕ) (n : ℕ) → ((i : ℕ) → i < n → f i ≡ g i) → sumOf f (upTo n) ≡ sumOf g (upTo n)
 sum-below f g n h = sum-same f g (upTo n) (all-upTo (λ i. f i ≡ g i) n h)
 
 -- that differ at k at most
-pub sum-change : (f g : ℕ → ℕ) (n k : ℕ) → k < n → ((i : ℕ) → i < n → i ≢ k → f i ≡ g i) → sum f (upTo n) + g k ≡ sum g (upTo n) + f k
+pub sum-change : (f g : ℕ → ℕ) (n k : ℕ) → k < n → ((i : ℕ) → i < n → i ≢ k → f i ≡ g i) → sumOf f (upTo n) + g k ≡ sumOf g (upTo n) + f k
 sum-change f g zero k h same = absurd (not-suc-le-zero h)
 sum-change f g (suc n) k h same = go (by-same k n) (sum-change f g n k)
   where
-    go : (k ≡ n) ⊎ (k ≢ n) → (k < n → ((i : ℕ) → i < n → i ≢ k → f i ≡ g i) → sum f (upTo n) + g k ≡ sum g (upTo n) + f k)
-        → sum f (upTo (suc n)) + g k ≡ sum g (upTo (suc n)) + f k
+    go : (k ≡ n) ⊎ (k ≢ n) → (k < n → ((i : ℕ) → i < n → i ≢ k → f i ≡ g i) → sumOf f (upTo n) + g k ≡ sumOf g (upTo n) + f k)
+        → sumOf f (upTo (suc n)) + g k ≡ sumOf g (upTo (suc n)) + f k
     go (inl e) ih = rw (e, sum-suc f n, sum-suc g n, sum-below f g n (λ i a. same i (omega arith) (λ q. omega arith))) (omega arith)
     go (inr e) ih = rw (sum-suc f n, sum-suc g n, same n (omega arith) (λ q. e (sym q))) (omega (arith, ih (omega arith) (λ i a. same i (omega arith))))
 
 -- where at most one number below n passes, two that pass are one
-pub one-passes : (f : ℕ → Bool) (n i j : ℕ) → count f (upTo n) ≤ 1 → i < n → j < n → f i ≡ true → f j ≡ true → j ≡ i
+pub one-passes : (f : ℕ → Bool) (n i j : ℕ) → countOf f (upTo n) ≤ 1 → i < n → j < n → f i ≡ true → f j ≡ true → j ≡ i
 one-passes f n i j h a b p q =
     by-test (eqb j i) (eqb-true j i) (λ e.
     let rest : ℕ → ℕ = λ k. pick (eqb k i) 0 (bit (f k)) in
@@ -175,14 +175,14 @@ one-passes f n i j h a b p q =
 
 module _ (f : ℕ → Bool) (d : ℕ) where
   -- if one passes, what is found does, and is below n
-  pub find-found : (n : ℕ) → any f (upTo n) ≡ true → (find f d (upTo n) < n) × (f (find f d (upTo n)) ≡ true)
+  pub find-found : (n : ℕ) → anyOf f (upTo n) ≡ true → (findOr f d (upTo n) < n) × (f (findOr f d (upTo n)) ≡ true)
   find-found n e = (all-found (λ i. i < n) f d (upTo n) (all-upTo (λ i. i < n) n (λ i h. h)) e, find-passes f d (upTo n) e)
 
-  find-from : (k n i : ℕ) → k ≤ i → i < k + n → f i ≡ true → find f d (from k n) ≤ i
+  find-from : (k n i : ℕ) → k ≤ i → i < k + n → f i ≡ true → findOr f d (from k n) ≤ i
   find-from k zero i a b e = absurd (omega arith)
   find-from k (suc n) i a b e = go (f k) refl (find-from (suc k) n i)
     where
-      go : (t : Bool) → f k ≡ t → (suc k ≤ i → i < suc k + n → f i ≡ true → find f d (from (suc k) n) ≤ i) → pick t k (find f d (from (suc k) n)) ≤ i
+      go : (t : Bool) → f k ≡ t → (suc k ≤ i → i < suc k + n → f i ≡ true → findOr f d (from (suc k) n) ≤ i) → pick t k (findOr f d (from (suc k) n)) ≤ i
       go true q ih = a
       go false q ih = ih (go₂ (by-same i k)) (omega arith) e
         where
@@ -191,16 +191,16 @@ module _ (f : ℕ → Bool) (d : ℕ) where
           go₂ (inr z) = omega arith
 
   -- none passes before what is found
-  pub find-least : (n i : ℕ) → i < n → f i ≡ true → find f d (upTo n) ≤ i
+  pub find-least : (n i : ℕ) → i < n → f i ≡ true → findOr f d (upTo n) ≤ i
   find-least n i h e = find-from 0 n i (omega arith) (omega arith) e
 
   -- the first that passes is found, and d where none does
-  pub find-first : (n i : ℕ) → i < n → f i ≡ true → ((j : ℕ) → j < i → f j ≡ false) → find f d (upTo n) ≡ i
-  find-first n i h e before = go (ltb (find f d (upTo n)) i) refl
+  pub find-first : (n i : ℕ) → i < n → f i ≡ true → ((j : ℕ) → j < i → f j ≡ false) → findOr f d (upTo n) ≡ i
+  find-first n i h e before = go (ltb (findOr f d (upTo n)) i) refl
     where
-      go : (b : Bool) → ltb (find f d (upTo n)) i ≡ b → find f d (upTo n) ≡ i
-      go true q = absurd (true≢false (sym (find-found n (any-one f n i h e) .1) ∙ before (find f d (upTo n)) (ltb-true (find f d (upTo n)) i q)))
-      go false q = omega (arith, ltb-false (find f d (upTo n)) i q, find-least n i h e)
+      go : (b : Bool) → ltb (findOr f d (upTo n)) i ≡ b → findOr f d (upTo n) ≡ i
+      go true q = absurd (true≢false (sym (find-found n (any-one f n i h e) .1) ∙ before (findOr f d (upTo n)) (ltb-true (findOr f d (upTo n)) i q)))
+      go false q = omega (arith, ltb-false (findOr f d (upTo n)) i q, find-least n i h e)
 
-  pub find-default : (n : ℕ) → ((i : ℕ) → i < n → f i ≡ false) → find f d (upTo n) ≡ d
+  pub find-default : (n : ℕ) → ((i : ℕ) → i < n → f i ≡ false) → findOr f d (upTo n) ≡ d
   find-default n h = find-none f d (upTo n) (none-any f n h)

@@ -10,11 +10,11 @@ use lib.Dec.{eqb, leb}
 use lib.ListN.{length, getD, set, take, drop, replicate, length-take, drop-of-length-le}
 use lib.Seq.{length-take-le, drop-nil, take-set-le, take-append-le, take-take, take-suc, drop-at}
 use borrow.Author.Tests.{eqb-true, eqb-false, ne-eqb, lt-leb, le-leb}
-use Rattle.lists.specs.Lists.{bit, pick, sum, sum₂, All}
+use Rattle.lists.specs.Lists.{bit, pick, sumOf, sumOf₂, All}
 use Rattle.lists.specs.Laws.Tests.{both, pick-same}
 use Rattle.lists.specs.Laws.All.{all-map, all-take, all₂-map}
 use Rattle.lists.specs.Laws.Sums.{sum-set, sum-append, sum-split, sum-plus, sum-same, sum₂-set, sum₂-same, sum₂-none}
-use Rattle.model.specs.Model.{Model, Object, Region, noObject, object, live, homeOf, marks, livesIn, homeIn, last, top, beneath, slot, held, into, freeInto, fromObject, inWords, inFrames, words, outside, stored, allowed, declare}
+use Rattle.model.specs.Model.{Model, Object, Region, noObject, object, live, homeOf, marks, livesIn, homeIn, topPlace, top, beneath, slot, inSlot, into, freeInto, fromObject, inWords, inFrames, wordPointers, outside, stored, allowed, declare}
 use Rattle.model.specs.Calls.{accepted, withFrames, fillSlot, popFrame, replaced, withWord, writeWord, addRegion, addObject, removeRegion, others, size, null}
 use Rattle.model.specs.Valid.{Valid, ValidObject, known, fine}
 use Rattle.model.specs.Moves.{between, uncounted, newly, weighs, fromRegion}
@@ -25,18 +25,18 @@ use Rattle.model.specs.Laws.Grows.{Extends, region-extends, object-exten
 -- the outside pointers are those of the stored count and those in uncounted frames
 pub outside-stored : (L : Model) (r : ℕ) → outside L r ≡ stored L r + inFrames (homeIn L) r (drop (L .counted) (L .frames))
 unfolding outside stored inFrames
-outside-stored L r = omega (arith, sum-split (sum (into (homeIn L) r)) (L .counted) (L .frames))
+outside-stored L r = omega (arith, sum-split (sumOf (into (homeIn L) r)) (L .counted) (L .frames))
 
 -- ---- frames: the top one is not counted
 
 frames-split : (home : ℕ → ℕ) (r k m : ℕ) (fs : List (List ℕ)) → k ≤ m → inFrames home r (take m fs) ≡ inFrames home r (take k fs) + inFrames home r (between k m fs)
 unfolding inFrames
-frames-split home r k m fs h = rw (sum-split (sum (into home r)) k (take m fs), take-take k m fs h)
+frames-split home r k m fs h = rw (sum-split (sumOf (into home r)) k (take m fs), take-take k m fs h)
 
 module _ (L : Model) (r : ℕ) (v : Valid L) where
   pub fill-stored : (s p : ℕ) → stored (fillSlot L s p) r ≡ stored L r
   unfolding stored fillSlot
-  fill-stored s p = rw (take-set-le (L .counted) (L .frames) (last (L .frames)) (set (top L) s p) (v .frames .mark))
+  fill-stored s p = rw (take-set-le (L .counted) (L .frames) (topPlace (L .frames)) (set (top L) s p) (v .frames .mark))
 
   pub push-stored : (f : List ℕ) → stored (withFrames L (L .frames ++ (f ∷ [])) (L .counted)) r ≡ stored L r
   unfolding stored
@@ -44,27 +44,27 @@ module _ (L : Model) (r : ℕ) (v : Valid L) where
 
   pub pop-stored : stored (popFrame L) r + inFrames (homeIn L) r (uncounted L) ≡ stored L r
   unfolding stored popFrame uncounted
-  pop-stored = go (pick (leb (last (L .frames)) (L .counted)) (L .counted - 1) (L .counted)) (lower (leb (last (L .frames)) (L .counted)))
+  pop-stored = go (pick (leb (topPlace (L .frames)) (L .counted)) (L .counted - 1) (L .counted)) (lower (leb (topPlace (L .frames)) (L .counted)))
     where
       lower : (b : Bool) → pick b (L .counted - 1) (L .counted) ≤ L .counted
       lower true = omega arith
       lower false = omega arith
 
       go : (k : ℕ) → k ≤ L .counted
-          → words L r + inFrames (homeIn L) r (take k (take (last (L .frames)) (L .frames))) + inFrames (homeIn L) r (between k (L .counted) (L .frames))
-          ≡ words L r + inFrames (homeIn L) r (take (L .counted) (L .frames))
-      go k h = rw (take-take k (last (L .frames)) (L .frames) (omega (arith, v .frames .mark)), frames-split (homeIn L) r k (L .counted) (L .frames) h) (omega arith)
+          → wordPointers L r + inFrames (homeIn L) r (take k (take (topPlace (L .frames)) (L .frames))) + inFrames (homeIn L) r (between k (L .counted) (L .frames))
+          ≡ wordPointers L r + inFrames (homeIn L) r (take (L .counted) (L .frames))
+      go k h = rw (take-take k (topPlace (L .frames)) (L .frames) (omega (arith, v .frames .mark)), frames-split (homeIn L) r k (L .counted) (L .frames) h) (omega arith)
 
 -- Removing a frame leaves the counts if no frame was counted, or not the new top; and takes the new top's slots out if it was.
 pub zero-uncounted : (L : Model) → L .counted ≡ 0 → uncounted L ≡ []
 unfolding uncounted
 zero-uncounted L e = let k = (popFrame L) .counted in ap (λ m. drop k (take m (L .frames))) e ∙ drop-nil k
 
-pub none-uncounted : (L : Model) → L .counted < last (L .frames) → uncounted L ≡ []
+pub none-uncounted : (L : Model) → L .counted < topPlace (L .frames) → uncounted L ≡ []
 unfolding uncounted popFrame
-none-uncounted L h = rw (lt-leb (last (L .frames)) (L .counted) h) (drop-of-length-le (take (L .counted) (L .frames)) {i = L .counted} (simp length-take (omega arith)))
+none-uncounted L h = rw (lt-leb (topPlace (L .frames)) (L .counted) h) (drop-of-length-le (take (L .counted) (L .frames)) {i = L .counted} (simp length-take (omega arith)))
 
-pub top-uncounted : (L : Model) (n : ℕ) → last (L .frames) ≡ suc n → L .counted ≡ suc n → uncounted L ≡ beneath L ∷ []
+pub top-uncounted : (L : Model) (n : ℕ) → topPlace (L .frames) ≡ suc n → L .counted ≡ suc n → uncounted L ≡ beneath L ∷ []
 unfolding uncounted popFrame
 top-uncounted L n e m =
     let b : length (L .frames) - 2 ≡ n = omega arith in
@@ -84,8 +84,8 @@ module _ (lives : ℕ → Bool) (home : ℕ → ℕ) (ks : List (List ℕ)) (r :
   unfolding fromObject adds
   from-set o w x l e h = rw l (go (eqb (o .home) r))
     where
-      go : (b : Bool) → pick (not b) (sum₂ (freeInto home r) (marks ks (o .kind)) (set (o .words) w x)) 0 + pick b 0 (freeInto home r (getD (marks ks (o .kind)) w 0) (getD (o .words) w 0))
-          ≡ pick (not b) (sum₂ (freeInto home r) (marks ks (o .kind)) (o .words)) 0 + pick b 0 (freeInto home r (getD (marks ks (o .kind)) w 0) x)
+      go : (b : Bool) → pick (not b) (sumOf₂ (freeInto home r) (marks ks (o .kind)) (set (o .words) w x)) 0 + pick b 0 (freeInto home r (getD (marks ks (o .kind)) w 0) (getD (o .words) w 0))
+          ≡ pick (not b) (sumOf₂ (freeInto home r) (marks ks (o .kind)) (o .words)) 0 + pick b 0 (freeInto home r (getD (marks ks (o .kind)) w 0) x)
       go true = refl
       go false = sum₂-set (freeInto home r) (marks ks (o .kind)) (o .words) w x 0 0 (omega arith) h
 
@@ -98,15 +98,15 @@ module _ (lives : ℕ → Bool) (home : ℕ → ℕ) (ks : List (List ℕ)) (r :
       let o = object os (suc p) in
       omega (arith, sum-set (fromObject lives home ks r) os p (withWord o w x) noObject i, from-set o w x l e h)
 
-module _ (L : Model) (r : ℕ) (v : Valid L) (s w x : ℕ) (n : null L s ≡ false) (k : w < length ((held L s) .words)) where
-  write-words : words (writeWord L s w x) r + weighs L s w r (getD ((held L s) .words) w 0) ≡ words L r + weighs L s w r x
+module _ (L : Model) (r : ℕ) (v : Valid L) (s w x : ℕ) (n : null L s ≡ false) (k : w < length ((inSlot L s) .words)) where
+  write-words : words (writeWord L s w x) r + weighs L s w r (getD ((inSlot L s) .words) w 0) ≡ wordPointers L r + weighs L s w r x
   unfolding writeWord weighs adds
   write-words =
       let l = held-lives L v s n in
       rw (homes-kept (L .objects) (slot L s) w x)
       (words-set (livesIn L) (homeIn L) (L .kinds) r (L .objects) (slot L s) w x (eqb-false (slot L s) 0 n) (in-list L v (slot L s) l) l (object-valid L v (slot L s) l .sized) k)
 
-  pub write-stored : stored (writeWord L s w x) r + weighs L s w r (getD ((held L s) .words) w 0) ≡ stored L r + weighs L s w r x
+  pub write-stored : stored (writeWord L s w x) r + weighs L s w r (getD ((inSlot L s) .words) w 0) ≡ stored L r + weighs L s w r x
   unfolding stored writeWord
   write-stored = rw (homes-kept (L .objects) (slot L s) w x) (omega (arith, rw (homes-kept (L .objects) (slot L s) w x) at write-words))
 
@@ -139,7 +139,7 @@ module _ {lives lives₂ : ℕ → Bool} {parent parent₂ home home₂ : ℕ �
 
   from-moved : (ks : List (List ℕ)) (r : ℕ) (o : Object) → ValidObject lives parent home ks given o → fromObject lives₂ home₂ ks r o ≡ fromObject lives home ks r o
   unfolding fromObject
-  from-moved ks r o s = rw (lives-moved (o .home) (s .past)) (go (lives (o .home)) refl)
+  from-moved ks r o s = rw (lives-moved (o .home) (s .homeGiven)) (go (lives (o .home)) refl)
     where
       word : (k p : ℕ) → fine lives parent home (o .home) k p ≡ true → freeInto home₂ r k p ≡ freeInto home r k p
       word k p f = go (eqb k 1) refl (eqb k 0) refl f
@@ -149,9 +149,9 @@ module _ {lives lives₂ : ℕ → Bool} {parent parent₂ home home₂ : ℕ �
           go true q true q₂ f = absurd (omega (arith, eqb-true k 1 q, eqb-true k 0 q₂))
           go true q false q₂ f = ap (λ x. bit (eqb x r)) (home-moved p (both _ _ f .0))
 
-      go : (b : Bool) → lives (o .home) ≡ b → pick (b && not (eqb (o .home) r)) (sum₂ (freeInto home₂ r) (marks ks (o .kind)) (o .words)) 0
-          ≡ pick (b && not (eqb (o .home) r)) (sum₂ (freeInto home r) (marks ks (o .kind)) (o .words)) 0
-      go true q = ap (λ x. pick (not (eqb (o .home) r)) x 0) (sum₂-same _ _ (marks ks (o .kind)) (o .words) (all₂-map word (marks ks (o .kind)) (o .words) (s .marked q)))
+      go : (b : Bool) → lives (o .home) ≡ b → pick (b && not (eqb (o .home) r)) (sumOf₂ (freeInto home₂ r) (marks ks (o .kind)) (o .words)) 0
+          ≡ pick (b && not (eqb (o .home) r)) (sumOf₂ (freeInto home r) (marks ks (o .kind)) (o .words)) 0
+      go true q = ap (λ x. pick (not (eqb (o .home) r)) x 0) (sum₂-same _ _ (marks ks (o .kind)) (o .words) (all₂-map word (marks ks (o .kind)) (o .words) (s .fineWords q)))
       go false q = refl
 
   inWords-moved : (ks : List (List ℕ)) (os : List Object) (r : ℕ) → All (ValidObject lives parent home ks given) os → inWords lives₂ home₂ ks os r ≡ inWords lives home ks os r
@@ -193,20 +193,20 @@ object-stored L r v h q k =
 
 module _ (L : Model) (q r : ℕ) (l : livesIn L q ≡ true) (n : eqb q r ≡ false) where
   from-removed : (o : Object)
-      → fromObject (live (others (L .regions) q)) (homeIn L) (L .kinds) r o + pick (eqb (o .home) q) (sum₂ (freeInto (homeIn L) r) (marks (L .kinds) (o .kind)) (o .words)) 0
+      → fromObject (live (others (L .regions) q)) (homeIn L) (L .kinds) r o + pick (eqb (o .home) q) (sumOf₂ (freeInto (homeIn L) r) (marks (L .kinds) (o .kind)) (o .words)) 0
       ≡ fromObject (livesIn L) (homeIn L) (L .kinds) r o
   unfolding fromObject
-  from-removed o = go (eqb (o .home) q) refl (sum₂ (freeInto (homeIn L) r) (marks (L .kinds) (o .kind)) (o .words))
+  from-removed o = go (eqb (o .home) q) refl (sumOf₂ (freeInto (homeIn L) r) (marks (L .kinds) (o .kind)) (o .words))
     where
       go : (b : Bool) → eqb (o .home) q ≡ b → (all : ℕ)
           → pick (live (others (L .regions) q) (o .home) && not (eqb (o .home) r)) all 0 + pick b all 0 ≡ pick (livesIn L (o .home) && not (eqb (o .home) r)) all 0
       go true e all = rw (eqb-true (o .home) q e, live-removed (L .regions) q, l, n) (omega arith)
       go false e all = rw (live-others (L .regions) q (o .home) e) (omega arith)
 
-  remove-words : words (removeRegion L q) r + fromRegion L q r ≡ words L r
+  remove-words : wordPointers (removeRegion L q) r + fromRegion L q r ≡ wordPointers L r
   unfolding removeRegion fromRegion inWords
-  remove-words = sym (sum-plus _ _ (L .objects)) ∙ ap (λ f. sum f (L .objects)) (fun-ext from-removed)
+  remove-words = sym (sum-plus _ _ (L .objects)) ∙ ap (λ f. sumOf f (L .objects)) (fun-ext from-removed)
 
   pub remove-stored : Valid L → stored (removeRegion L q) r + fromRegion L q r ≡ stored L r + inFrames (homeIn L) r (newly L)
   unfolding stored removeRegion newly
-  remove-stored v = omega (arith, remove-words, frames-split (homeIn L) r (L .counted) (last (L .frames)) (L .frames) (v .frames .mark))
+  remove-stored v = omega (arith, remove-words, frames-split (homeIn L) r (L .counted) (topPlace (L .frames)) (L .frames) (v .frames .mark))

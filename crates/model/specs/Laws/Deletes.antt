@@ -7,7 +7,7 @@ use Prim.Native.Nat.{ℕ, zero, suc}
 use native.Mathlib.Omega.{arith}
 use lib.Dec.{eqb}
 use borrow.Author.Tests.{eqb-true, eqb-false, ne-eqb, not-false}
-use Rattle.lists.specs.Lists.{bit, sum, All₂}
+use Rattle.lists.specs.Lists.{bit, sumOf, All₂}
 use Rattle.lists.specs.Laws.Tests.{bit-zero}
 use Rattle.lists.specs.Laws.All.{all-map, all-both, all₂-both}
 use Rattle.lists.specs.Laws.Sums.{sum-zero, sum₂-zero, length-keep, count-most}
@@ -62,16 +62,16 @@ module _ (L : Model) (v : Valid L) (r : ℕ) (l : livesIn L r ≡ true) (n : eqb
   object-left : (o : Object) → ValidIn L o → fromObject (livesIn L) (homeIn L) (L .kinds) r o ≡ 0
       → ValidObject (live (others (L .regions) r)) (parentOf (others (L .regions) r)) (homeIn L) (L .kinds) (L .given) o
   object-left o s e = record {
-    past = s .past;
+    homeGiven = s .homeGiven;
     kind = s .kind;
     sized = s .sized;
-    marked = λ q.
+    fineWords = λ q.
         let a = not-removed (L .regions) r (o .home) q in
         let m = sym (live-others (L .regions) r (o .home) a) ∙ q in
         all₂-both _ _ _ (λ k p f z. fine-moved (livesIn L) (live (others (L .regions) r)) (parentIn L) (parentOf (others (L .regions) r)) (homeIn L) (homeIn L) (o .home) k p
         (ap (λ x. x .parent) (region-others (L .regions) r (o .home) a))
         (λ l₂ e₂. (refl, live-others (L .regions) r (homeIn L p) (word-away (homeIn L) (parentIn L) r (o .home) k p one-away a (parent-away (o .home)) z e₂) ∙ l₂)) f)
-        (marks (L .kinds) (o .kind)) (o .words) (s .marked m) (from-zero (livesIn L) (homeIn L) (L .kinds) r o m a e);
+        (marks (L .kinds) (o .kind)) (o .words) (s .fineWords m) (from-zero (livesIn L) (homeIn L) (L .kinds) r o m a e);
   }
 
   remove-valid : outside L r ≡ 0 → Valid (removeRegion L r)
@@ -86,9 +86,9 @@ module _ (L : Model) (v : Valid L) (r : ℕ) (l : livesIn L r ≡ true) (n : eqb
           many = omega (arith, length-keep f gs, count-most f gs, v .names .many);
           distinct = distinct-keep f gs (v .names .distinct);
           named = all-map (λ g h. h .0) (others gs r) (all-keep _ f gs (v .names .named));
-          past = all-map (λ g h. h .0) (others gs r) (all-keep _ f gs (v .names .past));
+          namesGiven = all-map (λ g h. h .0) (others gs r) (all-keep _ f gs (v .names .namesGiven));
           last = v .names .last;
-          one = rw (live-others gs r 1 one-away) (v .names .one);
+          permanent = rw (live-others gs r 1 one-away) (v .names .permanent);
           root = ap (λ x. x .parent) (region-others gs r 1 one-away) ∙ v .names .root;
         };
         parents = all-map (λ g h. parent-left g (h .0 .0) (h .0 .1)) (others gs r)
@@ -100,7 +100,7 @@ module _ (L : Model) (v : Valid L) (r : ℕ) (l : livesIn L r ≡ true) (n : eqb
           many = v .frames .many;
           sized = v .frames .sized;
           slots = all-map (λ f h. all-map (λ p k. slot-left p (k .0) (k .1)) f (all-both _ _ f (h .0) (sum-zero (into (homeIn L) r) f (h .1)))) (L .frames)
-              (all-both _ _ (L .frames) (v .frames .slots) (sum-zero (sum (into (homeIn L) r)) (L .frames) (omega arith)));
+              (all-both _ _ (L .frames) (v .frames .slots) (sum-zero (sumOf (into (homeIn L) r)) (L .frames) (omega arith)));
         };
       }
 

@@ -8,7 +8,7 @@ use native.Mathlib.Omega.{arith}
 use lib.Dec.{eqb, ltb, leb}
 use lib.ListN.{length, replicate, length-append, length-replicate, length-map, List·getD-append}
 use borrow.Author.Tests.{ltb-false, leb-true, leb-false, eqb-true, eqb-false, eq-eqb, not-false}
-use Rattle.lists.specs.Lists.{pick, any}
+use Rattle.lists.specs.Lists.{pick, anyOf}
 use Rattle.lists.specs.Laws.Tests.{neither, both, or-right}
 use Rattle.lists.specs.Laws.All.{all-map, all-append, all-change, all-both, all₂-map, all₂-replicate}
 use Rattle.lists.specs.Laws.Finds.{any-false}
@@ -29,7 +29,7 @@ pub declare-valid : (L : Model) → Valid L → (ms : List ℕ) → refusal L (d
 unfolding accepted checks
 declare-valid L v ms e =
     let c = passed L (declare ms) e in
-    let c₁ = neither (eqb (length ms) 0 || ltb 16 (length ms)) (any (ltb 4) ms) (c .0) in
+    let c₁ = neither (eqb (length ms) 0 || ltb 16 (length ms)) (anyOf (ltb 4) ms) (c .0) in
     let c₂ = neither (eqb (length ms) 0) (ltb 16 (length ms)) (c₁ .0) in
     let low = eqb-false (length ms) 0 (c₂ .0) in
     let high = ltb-false 16 (length ms) (c₂ .1) in
@@ -45,10 +45,10 @@ declare-valid L v ms e =
         marks = all-append _ (L .kinds) (ms ∷ []) (v .kinds .marks) (all-map (λ k h. ltb-false 4 k h) ms (any-false (ltb 4) ms (c₁ .1)), tt);
       };
       objects = all-map (λ o s. record {
-        past = s .past;
+        homeGiven = s .homeGiven;
         kind = simp length-append (omega (arith, s .kind));
         sized = rw (marks-append (L .kinds) ms (o .kind) (s .kind .1)) (s .sized);
-        marked = λ l. rw (marks-append (L .kinds) ms (o .kind) (s .kind .1)) (s .marked l);
+        fineWords = λ l. rw (marks-append (L .kinds) ms (o .kind) (s .kind .1)) (s .fineWords l);
       }) (L .objects) (v .objects);
     }
 
@@ -96,12 +96,12 @@ module _ {lives lives₂ : ℕ → Bool} {parent parent₂ home home₂ : ℕ �
 
   object-moved : (ks : List (List ℕ)) (o : Object) → ValidObject lives parent home ks given o → ValidObject lives₂ parent₂ home₂ ks given₂ o
   object-moved ks o s = record {
-    past = omega (arith, s .past, m .grows);
+    homeGiven = omega (arith, s .homeGiven, m .grows);
     kind = s .kind;
     sized = s .sized;
-    marked = λ l. let l₁ = m .back (o .home) (s .past) l in
+    fineWords = λ l. let l₁ = m .back (o .home) (s .homeGiven) l in
         all₂-map (λ k p. fine-moved lives lives₂ parent parent₂ home home₂ (o .home) k p (m .parents (o .home) l₁) (λ l₂ r. (m .homes p l₂, m .forth (home p) l₂)))
-        (marks ks (o .kind)) (o .words) (s .marked l₁);
+        (marks ks (o .kind)) (o .words) (s .fineWords l₁);
   }
 
 -- ---- new region, subregion
@@ -127,12 +127,12 @@ add-region-valid L v r l a e d few last =
       kinds = v .kinds;
       names = record {
         many = simp length-append (omega arith);
-        distinct = distinct-more gs g (v .names .distinct) (all-map (λ x h. omega arith) gs (v .names .past));
+        distinct = distinct-more gs g (v .names .distinct) (all-map (λ x h. omega arith) gs (v .names .namesGiven));
         named = all-append _ gs (g ∷ []) (v .names .named) (omega arith, tt);
-        past = all-append _ gs (g ∷ []) (all-map (λ x h. omega arith) gs (v .names .past)) (omega arith, tt);
+        namesGiven = all-append _ gs (g ∷ []) (all-map (λ x h. omega arith) gs (v .names .namesGiven)) (omega arith, tt);
         last = omega arith;
-        one = live-more gs g 1 (v .names .one);
-        root = m .parents 1 (v .names .one) ∙ v .names .root;
+        permanent = live-more gs g 1 (v .names .permanent);
+        root = m .parents 1 (v .names .permanent) ∙ v .names .root;
       };
       parents = all-append _ gs (g ∷ []) (all-map (λ x u. moved g x u) gs (v .parents)) (record { parent = more g r a; level = rw (level-more gs g r a) e; deep = d }, tt);
       oldest = all-append _ gs (g ∷ []) (v .oldest) (refl, tt);
@@ -236,10 +236,10 @@ add-object-valid L v r k l h =
         many = simp length-map (v .names .many);
         distinct = distinct-map (change r n i) (name-kept r n i) gs (v .names .distinct);
         named = all-change (λ g. 1 ≤ g .name) _ (change r n i) (λ g q. rw (name-kept r n i g) q) gs (v .names .named);
-        past = all-change (λ g. g .name ≤ L .given) _ (change r n i) (λ g q. rw (name-kept r n i g) q) gs (v .names .past);
+        namesGiven = all-change (λ g. g .name ≤ L .given) _ (change r n i) (λ g q. rw (name-kept r n i g) q) gs (v .names .namesGiven);
         last = v .names .last;
-        one = m .forth 1 (v .names .one);
-        root = m .parents 1 (v .names .one) ∙ v .names .root;
+        permanent = m .forth 1 (v .names .permanent);
+        root = m .parents 1 (v .names .permanent) ∙ v .names .root;
       };
       parents = all-change (ValidParent gs) _ (change r n i) (λ g u. record {
         parent = rw (parent-kept r n i g, live-map (change r n i) (name-kept r n i) gs (g .parent)) (u .parent);
@@ -250,10 +250,10 @@ add-object-valid L v r k l h =
           (all-both _ _ gs (v .oldest) (v .names .named));
       objects = all-append _ (L .objects) (o ∷ []) (all-map (object-moved m (L .kinds)) (L .objects) (v .objects)) (
         record {
-          past = live-all (λ q. q ≤ L .given) gs r (v .names .past) (omega arith) l;
+          homeGiven = live-all (λ q. q ≤ L .given) gs r (v .names .namesGiven) (omega arith) l;
           kind = h;
           sized = length-replicate (length (marks (L .kinds) k)) 0;
-          marked = λ q. all₂-replicate _ (marks (L .kinds) k) (length (marks (L .kinds) k)) 0 (λ x. or-right (eqb x 0) _ refl);
+          fineWords = λ q. all₂-replicate _ (marks (L .kinds) k) (length (marks (L .kinds) k)) 0 (λ x. or-right (eqb x 0) _ refl);
         },
         tt,
       );

@@ -9,7 +9,7 @@ use lib.ListN.{length, getD, replicate}
 use borrow.Author.Tests.{eqb-true, leb-false, not-false}
 use Rattle.lists.specs.Laws.Tests.{pick-same, eqb-sym}
 use Rattle.model.specs.Model.{Model, Call, declare, newRegion, subregion, push, dropFrame, handBack, allocate, first, copy, fetch, clear, load, setPointer, put, get, view, same, about, report, totals, audit, delete}
-use Rattle.model.specs.Model.{region, livesIn, beneath, slot, held, markAt, stored}
+use Rattle.model.specs.Model.{region, livesIn, beneath, slot, inSlot, markAt, stored}
 use Rattle.model.specs.Calls.{checks, refusal, accepted, next, nextBy, popFrame, addObject, removeRegion}
 use Rattle.model.specs.Valid.{Valid}
 use Rattle.model.specs.Moves.{weighs, moves, movesBy}
@@ -23,7 +23,7 @@ use Rattle.model.specs.Laws.Counts.{fill-stored, push-stored, pop-stored
 -- a data word counts nowhere
 weighs-data : (L : Model) (s w r x : ℕ) → markAt L s w ≡ 0 → weighs L s w r x ≡ 0
 unfolding weighs
-weighs-data L s w r x e = rw e (pick-same (eqb ((held L s) .home) r) 0)
+weighs-data L s w r x e = rw e (pick-same (eqb ((inSlot L s) .home) r) 0)
 
 module _ (L : Model) (r : ℕ) (v : Valid L) where
   still : (n : ℕ) → n ≡ stored L r → n + 0 ≡ stored L r + 0
@@ -34,7 +34,7 @@ module _ (L : Model) (r : ℕ) (v : Valid L) where
   put-stored s w x e =
       let t = passed L (put s w x) e in
       let z = eqb-true (markAt L s w) 0 (not-false (eqb (markAt L s w) 0) (t .1 .1 .1 .1 .0)) in
-      omega (arith, write-stored L r v s w x (t .1 .1 .0) (leb-false (length ((held L s) .words)) w (t .1 .1 .1 .0)), weighs-data L s w r x z, weighs-data L s w r (getD ((held L s) .words) w 0) z)
+      omega (arith, write-stored L r v s w x (t .1 .1 .0) (leb-false (length ((inSlot L s) .words)) w (t .1 .1 .1 .0)), weighs-data L s w r x z, weighs-data L s w r (getD ((inSlot L s) .words) w 0) z)
 
   positive : (c : Call) → refusal L c ≡ 0 → livesIn (accepted L c) r ≡ true → 0 < r
   positive c e l = live-positive ((accepted L c) .regions) r (accepted-valid L c v e .names .named) l
@@ -52,10 +52,10 @@ module _ (L : Model) (r : ℕ) (v : Valid L) where
   accepted-stored (copy s t) e l = still _ (fill-stored L r v t (slot L s))
   accepted-stored (fetch b s) e l = still _ (fill-stored L r v s (getD (beneath L) b 0))
   accepted-stored (clear s) e l = still _ (fill-stored L r v s 0)
-  accepted-stored (load s w t) e l = still _ (fill-stored L r v t (getD ((held L s) .words) w 0))
+  accepted-stored (load s w t) e l = still _ (fill-stored L r v t (getD ((inSlot L s) .words) w 0))
   accepted-stored (setPointer s w p) e l =
       let t = passed L (setPointer s w p) e in
-      write-stored L r v s w (slot L p) (t .1 .1 .0) (leb-false (length ((held L s) .words)) w (t .1 .1 .1 .0))
+      write-stored L r v s w (slot L p) (t .1 .1 .0) (leb-false (length ((inSlot L s) .words)) w (t .1 .1 .1 .0))
   accepted-stored (put s w x) e l = still _ (put-stored s w x e)
   accepted-stored (get s w) e l = refl
   accepted-stored (view s) e l = refl

@@ -8,13 +8,13 @@ use native.Mathlib.Omega.{arith}
 use lib.Dec.{eqb}
 use lib.ListN.{length, getD, length-set, length-replicate}
 use borrow.Author.Tests.{eqb-true, eqb-false, ne-eqb, leb-true, ltb-false, not-false}
-use Rattle.lists.specs.Lists.{bit, pick, any, sum, count, All}
+use Rattle.lists.specs.Lists.{bit, pick, anyOf, sumOf, countOf, All}
 use Rattle.lists.specs.Laws.Tests.{eqb-sym}
 use Rattle.lists.specs.Laws.All.{all-map, all-at, all-append, all-change}
 use Rattle.lists.specs.Laws.Sums.{sum-append, sum-le, sum-most, sum-any, sum₂-most, count-most}
 use Rattle.lists.specs.Laws.Finds.{all-keep, any-count, sum-none, sum-without, sum-instead}
 use Rattle.model.specs.Model.{Model, Object, Region, Call, declare, newRegion, subregion, push, dropFrame, handBack, allocate, first, copy, fetch, clear, load, setPointer, put, get, view, same, about, report, totals, audit, delete}
-use Rattle.model.specs.Model.{noRegion, called, live, region, object, marks, livesIn, homeIn, beneath, slot, held, into, freeInto, fromObject, inWords, inFrames, words, outside, stored}
+use Rattle.model.specs.Model.{noRegion, called, live, region, object, marks, livesIn, homeIn, beneath, slot, inSlot, into, freeInto, fromObject, inWords, inFrames, wordPointers, outside, stored}
 use Rattle.model.specs.Calls.{checks, refusal, accepted, next, nextBy, after, fresh, size, fits, fillSlot, popFrame, writeWord, replaced, withWord, addRegion, grown, addObject, removeRegion, others}
 use Rattle.model.specs.Valid.{Valid, Distinct}
 use Rattle.model.specs.Paged.{Paged, Lies, space, spaceOf}
@@ -24,16 +24,16 @@ use Rattle.model.specs.Laws.Next.{next-valid}
 use Rattle.model.specs.Laws.Counts.{outside-stored}
 
 -- one region has a name that lives
-pub distinct-one : (gs : List Region) (r : ℕ) → Distinct gs → live gs r ≡ true → count (called r) gs ≡ 1
+pub distinct-one : (gs : List Region) (r : ℕ) → Distinct gs → live gs r ≡ true → countOf (called r) gs ≡ 1
 distinct-one [] r d l = absurd (false≢true l)
 distinct-one (g ∷ gs) r d l = go (called r g) refl l (distinct-one gs r (d .1))
   where
-    go : (b : Bool) → called r g ≡ b → (b || live gs r) ≡ true → (live gs r ≡ true → count (called r) gs ≡ 1) → bit b + count (called r) gs ≡ 1
-    go true q l h = omega (arith, ltb-false 0 (count (called r) gs) (sym (any-count (called r) gs) ∙ (rw (eqb-true (g .name) r q) at (d .0))))
+    go : (b : Bool) → called r g ≡ b → (b || live gs r) ≡ true → (live gs r ≡ true → countOf (called r) gs ≡ 1) → bit b + countOf (called r) gs ≡ 1
+    go true q l h = omega (arith, ltb-false 0 (countOf (called r) gs) (sym (any-count (called r) gs) ∙ (rw (eqb-true (g .name) r q) at (d .0))))
     go false q l h = omega (arith, h l)
 
 -- a word written: the object takes as many words as before
-space-replaced : (r : ℕ) (os : List Object) (q w x : ℕ) → sum (spaceOf r) (replaced os q (withWord (object os q) w x)) ≡ sum (spaceOf r) os
+space-replaced : (r : ℕ) (os : List Object) (q w x : ℕ) → sumOf (spaceOf r) (replaced os q (withWord (object os q) w x)) ≡ sumOf (spaceOf r) os
 space-replaced r os zero w x = refl
 space-replaced r [] (suc q) w x = refl
 space-replaced r (o ∷ os) (suc zero) w x = simp length-set
@@ -66,7 +66,7 @@ module _ {N : ℕ} (L : Model) (p : Paged N L) where
   region-paged v r l =
       let n = L .given + 1 in
       let g : Region = record { name = n; parent = r; level = l; pages = 0; room = 0; oldest = 0 } in
-      let none = sum-none (λ o. eqb (o .home) n) (λ o. length (o .words) + 1) (L .objects) (all-map (λ o s. ne-eqb (o .home) n (λ e. omega (arith, s .past))) (L .objects) (v .objects)) in
+      let none = sum-none (λ o. eqb (o .home) n) (λ o. length (o .words) + 1) (L .objects) (all-map (λ o s. ne-eqb (o .home) n (λ e. omega (arith, s .homeGiven))) (L .objects) (v .objects)) in
       record {
         whole = omega (arith, p .whole, sum-append (λ g. g .pages) (L .regions) (g ∷ []));
         fits = all-append _ (L .regions) (g ∷ []) (p .fits) (omega (arith, none), tt);
@@ -93,7 +93,7 @@ module _ {N : ℕ} (L : Model) (p : Paged N L) where
       i : ℕ
       i = length (L .objects) + 1
 
-      whole : (b : Bool) → (not b && eqb (L .free) 0) ≡ false → (m : ℕ) → m + g₀ .pages ≡ sum (λ g. g .pages) gs + pick b (g₀ .pages) (g₀ .pages + 1) → pick b (L .free) (L .free - 1) + m ≡ N
+      whole : (b : Bool) → (not b && eqb (L .free) 0) ≡ false → (m : ℕ) → m + g₀ .pages ≡ sumOf (λ g. g .pages) gs + pick b (g₀ .pages) (g₀ .pages + 1) → pick b (L .free) (L .free - 1) + m ≡ N
       whole true e m h = omega (arith, p .whole)
       whole false e m h = let f = eqb-false (L .free) 0 e in omega (arith, p .whole)
 
@@ -134,7 +134,7 @@ accepted-paged L v p (first s r) e = fill-paged L p s ((region (L .regions) r) .
 accepted-paged L v p (copy s t) e = fill-paged L p t (slot L s)
 accepted-paged L v p (fetch b s) e = fill-paged L p s (getD (beneath L) b 0)
 accepted-paged L v p (clear s) e = fill-paged L p s 0
-accepted-paged L v p (load s w t) e = fill-paged L p t (getD ((held L s) .words) w 0)
+accepted-paged L v p (load s w t) e = fill-paged L p t (getD ((inSlot L s) .words) w 0)
 accepted-paged L v p (setPointer s w q) e = write-paged L p s w (slot L q)
 accepted-paged L v p (put s w x) e = write-paged L p s w x
 accepted-paged L v p (get s w) e = p
@@ -166,10 +166,10 @@ fresh-paged n = record { whole = omega arith; fits = (omega arith, tt) }
 
 module _ (L : Model) (r : ℕ) where
   -- an object counts at most once for each of its words, and only while it lives
-  from-most : (o : Object) → fromObject (livesIn L) (homeIn L) (L .kinds) r o ≤ pick (any (λ g. eqb (o .home) (g .name)) (L .regions)) (length (o .words) + 1) 0
+  from-most : (o : Object) → fromObject (livesIn L) (homeIn L) (L .kinds) r o ≤ pick (anyOf (λ g. eqb (o .home) (g .name)) (L .regions)) (length (o .words) + 1) 0
   unfolding fromObject
   from-most o =
-      let lives : any (λ g. eqb (o .home) (g .name)) (L .regions) ≡ livesIn L (o .home) = ap (λ t. any t (L .regions)) (fun-ext (λ g. eqb-sym (o .home) (g .name))) in
+      let lives : anyOf (λ g. eqb (o .home) (g .name)) (L .regions) ≡ livesIn L (o .home) = ap (λ t. anyOf t (L .regions)) (fun-ext (λ g. eqb-sym (o .home) (g .name))) in
       rw lives (go (livesIn L (o .home)) (eqb (o .home) r) (sum₂-most (freeInto (homeIn L) r) (λ k q. one (eqb k 1) (eqb (homeIn L q) r)) (marks (L .kinds) (o .kind)) (o .words)))
     where
       one : (a b : Bool) → pick a (bit b) 0 ≤ 1
@@ -183,15 +183,15 @@ module _ (L : Model) (r : ℕ) where
       go false b h = omega arith
 
   -- the live objects lie in the pages of the regions
-  words-most : words L r ≤ sum (λ g. space L (g .name)) (L .regions)
+  words-most : wordPointers L r ≤ sumOf (λ g. space L (g .name)) (L .regions)
   unfolding inWords space
   words-most = omega (arith, sum-le _ _ from-most (L .objects), sum-any (λ g o. eqb (o .home) (g .name)) (λ o. length (o .words) + 1) (L .objects) (L .regions))
 
   slots-most : Valid L → inFrames (homeIn L) r (L .frames) ≤ 8 * length (L .frames)
   unfolding inFrames
-  slots-most v = sum-most (sum (into (homeIn L) r)) 8 (L .frames) (all-map (λ f h. omega (arith, h .1, count-most (λ q. eqb (homeIn L q) r) f)) (L .frames) (v .frames .sized))
+  slots-most v = sum-most (sumOf (into (homeIn L) r)) 8 (L .frames) (all-map (λ f h. omega (arith, h .1, count-most (λ q. eqb (homeIn L q) r) f)) (L .frames) (v .frames .sized))
 
-pages-most : (L : Model) (gs : List Region) → All (Lies L) gs → sum (λ g. space L (g .name)) gs ≤ 64 * sum (λ g. g .pages) gs
+pages-most : (L : Model) (gs : List Region) → All (Lies L) gs → sumOf (λ g. space L (g .name)) gs ≤ 64 * sumOf (λ g. g .pages) gs
 pages-most L [] h = omega arith
 pages-most L (g ∷ gs) h = omega (arith, h .0, pages-most L gs (h .1))
 

@@ -10,7 +10,7 @@ use lib.Dec.{eqb, leb}
 use lib.ListN.{length, getD, set, List·getD-append, List·getD-eq-default}
 use lib.Seq.{getD-append-seam}
 use borrow.Author.Tests.{eqb-true, eq-eqb, ne-eqb, ltb-false, leb-true, leb-false}
-use Rattle.lists.specs.Lists.{bit, pick, keep, count, All}
+use Rattle.lists.specs.Lists.{bit, pick, keep, countOf, All}
 use Rattle.lists.specs.Laws.Tests.{by-test, eqb-sym}
 use Rattle.lists.specs.Laws.All.{all-map, all-both}
 use Rattle.lists.specs.Laws.Finds.{any-append, find-append, find-passes, all-find, any-keep, any-thrown, find-keep, any-false, false-any, any-count, any-fewer}
@@ -39,12 +39,12 @@ level-is gs zero z l = absurd (true≢false (sym l ∙ z))
 level-is gs (suc r) z l = refl
 
 -- at most one region has a given name, and it is the one found under its name
-pub distinct-once : (gs : List Region) → Distinct gs → (r : ℕ) → count (called r) gs ≤ 1
+pub distinct-once : (gs : List Region) → Distinct gs → (r : ℕ) → countOf (called r) gs ≤ 1
 distinct-once [] d r = omega arith
 distinct-once (x ∷ xs) d r = go (eqb (x .name) r) refl (distinct-once xs (d .1) r)
   where
-    go : (b : Bool) → eqb (x .name) r ≡ b → count (called r) xs ≤ 1 → bit b + count (called r) xs ≤ 1
-    go true e h = omega (arith, ltb-false 0 (count (called r) xs) (sym (any-count (called r) xs) ∙ ap (live xs) (sym (eqb-true (x .name) r e)) ∙ d .0))
+    go : (b : Bool) → eqb (x .name) r ≡ b → countOf (called r) xs ≤ 1 → bit b + countOf (called r) xs ≤ 1
+    go true e h = omega (arith, ltb-false 0 (countOf (called r) xs) (sym (any-count (called r) xs) ∙ ap (live xs) (sym (eqb-true (x .name) r e)) ∙ d .0))
     go false e h = omega arith
 
 pub found-itself : (gs : List Region) → Distinct gs → All (λ g. region gs (g .name) ≡ g) gs

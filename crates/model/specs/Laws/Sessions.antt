@@ -10,17 +10,17 @@ use Rattle.lists.specs.Lists.{every, equal}
 use Rattle.lists.specs.Laws.All.{all-in}
 use Rattle.lists.specs.Laws.Finds.{every-true}
 use Rattle.lists.specs.Laws.Every.{equal-is}
-use Rattle.model.specs.Sessions.{Row, shown, table, document}
+use Rattle.model.specs.Sessions.{Row, printed, table, document}
 
 right : Row → Bool
-right r = equal (equal eqb) (shown r) (r .prints)
+right r = equal (equal eqb) (printed r) (r .prints)
 
 all-right : every right table ≡ true
-unfolding right shown
+unfolding right printed
 all-right = refl
 
-pub sessions : (k : ℕ) → k < length table → shown (getD table k document) ≡ (getD table k document) .prints
+pub sessions : (k : ℕ) → k < length table → printed (getD table k document) ≡ (getD table k document) .prints
 unfolding right
 sessions k h =
     let r = getD table k document in
-    equal-is (equal eqb) (equal-is eqb eqb-true) (shown r) (r .prints) (all-in (λ r. right r ≡ true) table k document (every-true right table all-right) h)
+    equal-is (equal eqb) (equal-is eqb eqb-true) (printed r) (r .prints) (all-in (λ r. right r ≡ true) table k document (every-true right table all-right) h)

@@ -12,7 +12,7 @@ use Rattle.lists.specs.Lists.{pick, All}
 use Rattle.lists.specs.Laws.Tests.{neither, both, or-right, or-other}
 use Rattle.lists.specs.Laws.All.{all-at, all-in, all-set, all-update, all-append, all-take, all-replicate, all₂-set, all₂-in}
 use Rattle.lists.specs.Laws.Finds.{all-find}
-use Rattle.model.specs.Model.{Model, Object, noObject, noRegion, object, called, region, livesIn, homeIn, parentIn, last, top, beneath, slot, held, heldMarks, markAt, allowed}
+use Rattle.model.specs.Model.{Model, Object, noObject, noRegion, object, called, region, livesIn, homeIn, parentIn, topPlace, top, beneath, slot, inSlot, slotMarks, markAt, allowed}
 use Rattle.model.specs.Model.{push, handBack, first, copy, fetch, clear, load, setPointer, put}
 use Rattle.model.specs.Calls.{checks, refusal, accepted, withFrames, fillSlot, popFrame, replaced, withWord, writeWord, null}
 use Rattle.model.specs.Valid.{Valid, ValidFrames, ValidObject, OwnOldest, known, fine}
@@ -43,8 +43,8 @@ module _ (L : Model) (v : Valid L) where
   object-valid (suc i) l = all-in (ValidIn L) (L .objects) i noObject (v .objects) (in-list (suc i) l)
 
   -- the object in a slot that is not null lives
-  pub held-lives : (s : ℕ) → null L s ≡ false → livesIn L ((held L s) .home) ≡ true
-  held-lives s n = or-other (null L s) (livesIn L ((held L s) .home)) (slot-known (last (L .frames)) s) n
+  pub held-lives : (s : ℕ) → null L s ≡ false → livesIn L ((inSlot L s) .home) ≡ true
+  held-lives s n = or-other (null L s) (livesIn L ((inSlot L s) .home)) (slot-known (topPlace (L .frames)) s) n
 
   -- ---- frames
 
@@ -53,11 +53,11 @@ module _ (L : Model) (v : Valid L) where
 
   pub fill-valid : (s p : ℕ) → Known L p → Valid (fillSlot L s p)
   unfolding fillSlot
-  fill-valid s p k = frames-valid (set (L .frames) (last (L .frames)) (set (top L) s p)) (L .counted) (record {
+  fill-valid s p k = frames-valid (set (L .frames) (topPlace (L .frames)) (set (top L) s p)) (L .counted) (record {
     mark = simp length-set (v .frames .mark);
     many = simp length-set (v .frames .many);
-    sized = all-update _ (L .frames) (last (L .frames)) [] (set (top L) s p) (v .frames .sized) (λ h. simp length-set h);
-    slots = all-update _ (L .frames) (last (L .frames)) [] (set (top L) s p) (v .frames .slots) (λ h. all-set _ (top L) s p h k);
+    sized = all-update _ (L .frames) (topPlace (L .frames)) [] (set (top L) s p) (v .frames .sized) (λ h. simp length-set h);
+    slots = all-update _ (L .frames) (topPlace (L .frames)) [] (set (top L) s p) (v .frames .slots) (λ h. all-set _ (top L) s p h k);
   })
 
   pub push-valid : (n : ℕ) → refusal L (push n) ≡ 0 → Valid (accepted L (push n))
@@ -77,16 +77,16 @@ module _ (L : Model) (v : Valid L) where
 
   pub pop-valid : Valid (popFrame L)
   unfolding popFrame
-  pop-valid = frames-valid (take (last (L .frames)) (L .frames)) (pick (leb (last (L .frames)) (L .counted)) (L .counted - 1) (L .counted)) (record {
-    mark = simp length-take (go (leb (last (L .frames)) (L .counted)) refl);
+  pop-valid = frames-valid (take (topPlace (L .frames)) (L .frames)) (pick (leb (topPlace (L .frames)) (L .counted)) (L .counted - 1) (L .counted)) (record {
+    mark = simp length-take (go (leb (topPlace (L .frames)) (L .counted)) refl);
     many = simp length-take (omega (arith, v .frames .many));
-    sized = all-take _ (last (L .frames)) (L .frames) (v .frames .sized);
-    slots = all-take _ (last (L .frames)) (L .frames) (v .frames .slots);
+    sized = all-take _ (topPlace (L .frames)) (L .frames) (v .frames .sized);
+    slots = all-take _ (topPlace (L .frames)) (L .frames) (v .frames .slots);
   })
     where
-      go : (b : Bool) → leb (last (L .frames)) (L .counted) ≡ b → pick b (L .counted - 1) (L .counted) ≤ min (last (L .frames)) (length (L .frames)) - 1
+      go : (b : Bool) → leb (topPlace (L .frames)) (L .counted) ≡ b → pick b (L .counted - 1) (L .counted) ≤ min (topPlace (L .frames)) (length (L .frames)) - 1
       go true q = omega (arith, v .frames .mark)
-      go false q = omega (arith, leb-false (last (L .frames)) (L .counted) q)
+      go false q = omega (arith, leb-false (topPlace (L .frames)) (L .counted) q)
 
   -- ---- slots
 
@@ -96,7 +96,7 @@ module _ (L : Model) (v : Valid L) where
 
   pub copy-valid : (s t : ℕ) → Valid (accepted L (copy s t))
   unfolding accepted
-  copy-valid s t = fill-valid t (slot L s) (slot-known (last (L .frames)) s)
+  copy-valid s t = fill-valid t (slot L s) (slot-known (topPlace (L .frames)) s)
 
   pub fetch-valid : (b s : ℕ) → Valid (accepted L (fetch b s))
   unfolding accepted
@@ -108,9 +108,9 @@ module _ (L : Model) (v : Valid L) where
       let c = passed L (load s w t) e in
       let l = held-lives s (c .1 .1 .0) in
       let o = object-valid (slot L s) l in
-      let k = leb-false (length ((held L s) .words)) w (c .1 .1 .1 .0) in
-      let f = all₂-in _ (heldMarks L s) ((held L s) .words) w 0 0 (o .marked l) (omega (arith, o .sized)) k in
-      fill-valid t (getD ((held L s) .words) w 0) (both _ _ (or-other (eqb (markAt L s w) 0) _ f (c .1 .1 .1 .1 .0)) .0)
+      let k = leb-false (length ((inSlot L s) .words)) w (c .1 .1 .1 .0) in
+      let f = all₂-in _ (slotMarks L s) ((inSlot L s) .words) w 0 0 (o .fineWords l) (omega (arith, o .sized)) k in
+      fill-valid t (getD ((inSlot L s) .words) w 0) (both _ _ (or-other (eqb (markAt L s w) 0) _ f (c .1 .1 .1 .1 .0)) .0)
 
   -- a region's oldest object is null or lives
   pub oldest-known : (r : ℕ) → livesIn L r ≡ true → Known L ((region (L .regions) r) .oldest)
@@ -130,11 +130,11 @@ module _ (L : Model) (v : Valid L) where
   all-replaced P os zero o h k = h
   all-replaced P os (suc i) o h k = all-update P os i _ o h k
 
-  write-valid : (s w x : ℕ) → fine (livesIn L) (parentIn L) (homeIn L) ((held L s) .home) (markAt L s w) x ≡ true → Valid (writeWord L s w x)
+  write-valid : (s w x : ℕ) → fine (livesIn L) (parentIn L) (homeIn L) ((inSlot L s) .home) (markAt L s w) x ≡ true → Valid (writeWord L s w x)
   unfolding writeWord
   write-valid s w x f =
       let homes = sym (homes-kept (L .objects) (slot L s) w x) in
-      let o = withWord (held L s) w x in
+      let o = withWord (inSlot L s) w x in
       record {
         kinds = v .kinds;
         names = v .names;
@@ -144,18 +144,18 @@ module _ (L : Model) (v : Valid L) where
         objects =
             subst (λ h. All (ValidObject (livesIn L) (parentIn L) h (L .kinds) (L .given)) (replaced (L .objects) (slot L s) o)) homes
             (all-replaced _ (L .objects) (slot L s) o (v .objects) (λ q. record {
-              past = q .past;
+              homeGiven = q .homeGiven;
               kind = q .kind;
               sized = simp length-set (q .sized);
-              marked = λ l. all₂-set _ (heldMarks L s) ((held L s) .words) w 0 x (q .marked l) f;
+              fineWords = λ l. all₂-set _ (slotMarks L s) ((inSlot L s) .words) w 0 x (q .fineWords l) f;
             }));
       }
 
   pub set-valid : (s w p : ℕ) → refusal L (setPointer s w p) ≡ 0 → Valid (accepted L (setPointer s w p))
   unfolding accepted checks
   set-valid s w p e =
-      let a = not-false (allowed (parentIn L) (homeIn L) ((held L s) .home) (markAt L s w) (slot L p)) (passed L (setPointer s w p) e .1 .1 .1 .1 .1 .0) in
-      write-valid s w (slot L p) (or-right (eqb (markAt L s w) 0) _ (rw (slot-known (last (L .frames)) p, a)))
+      let a = not-false (allowed (parentIn L) (homeIn L) ((inSlot L s) .home) (markAt L s w) (slot L p)) (passed L (setPointer s w p) e .1 .1 .1 .1 .1 .0) in
+      write-valid s w (slot L p) (or-right (eqb (markAt L s w) 0) _ (rw (slot-known (topPlace (L .frames)) p, a)))
 
   pub put-valid : (s w x : ℕ) → refusal L (put s w x) ≡ 0 → Valid (accepted L (put s w x))
   unfolding accepted checks
@@ -163,4 +163,4 @@ module _ (L : Model) (v : Valid L) where
 
 pub hand-valid : (L : Model) → Valid L → (s b : ℕ) → Valid (accepted L (handBack s b))
 unfolding accepted popFrame
-hand-valid L v s b = fill-valid (popFrame L) (pop-valid L v) b (slot L s) (slot-known L v (last (L .frames)) s)
+hand-valid L v s b = fill-valid (popFrame L) (pop-valid L v) b (slot L s) (slot-known L v (topPlace (L .frames)) s)

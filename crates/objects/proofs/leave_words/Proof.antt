@@ -7,7 +7,7 @@ use lib.ListN.{length}
 use borrow.Author.Needs.{needs}
 use Rattle.regions.specs.Laws.Steps.{steps, leavings, steps-length}
 use Rattle.objects.specs.Objects.{outOf}
-use Rattle.objects.specs.Parts.{wordIn, marked}
+use Rattle.objects.specs.Parts.{wordIn, freeWordsIn}
 use Rattle.objects.specs.Laws.Words.{marked-one, marked-not}
 use Rattle.objects.specs.Laws.Leaving.{left-left}
 use Rattle.objects.proofs.leave_words.Statement.{statement}
@@ -15,13 +15,13 @@ use Rattle.objects.proofs.leave_words.Tie as tie
 
 -- the words passed have left
 abbrev Inv-loop : tie.InvT-loop
-Inv-loop marks object n owners counts₀ own w₀ counts w = (w ≤ n) × (counts ≡ leavings counts₀ (outOf owners own (marked marks object w)))
+Inv-loop marks object n owners counts₀ own w₀ counts w = (w ≤ n) × (counts ≡ leavings counts₀ (outOf owners own (freeWordsIn marks object w)))
 
 abbrev μ-loop : tie.MeasureT-loop
 μ-loop marks object n owners counts₀ own w₀ counts w = n - w
 
 loop-holds : tie.Need-loop-holds Inv-loop μ-loop
-unfolding outOf marked steps
+unfolding outOf freeWordsIn steps
 loop-holds c = (search needs, refl)
 
 loop-again : tie.Need-loop-again Inv-loop μ-loop
@@ -32,7 +32,7 @@ loop-again c =
       omega arith,
       ⊎-elim
           (λ w.
-          rw (marked-one (a .marks .now) (a .object .now) (l .loop .w) (sym m ∙ w .0 .taken), ← left-left (a .owners .now) (a .own) (a .counts .now) (marked (a .marks .now) (a .object .now) (l .loop .w)) (wordIn (a .object .now) (l .loop .w) ∷ []), ← l .loop .inv .1)
+          rw (marked-one (a .marks .now) (a .object .now) (l .loop .w) (sym m ∙ w .0 .taken), ← left-left (a .owners .now) (a .own) (a .counts .now) (freeWordsIn (a .marks .now) (a .object .now) (l .loop .w)) (wordIn (a .object .now) (l .loop .w) ∷ []), ← l .loop .inv .1)
           (w .6 ∙ w .3 .ensures ∙ ap (λ v. leavings (l .loop .counts) (outOf (a .owners .now) (a .own) (v ∷ []))) (w .2 .ensures)))
           (λ w. rw (marked-not (a .marks .now) (a .object .now) (l .loop .w) (λ q. w .0 .left (m ∙ q))) (w .1 ∙ l .loop .inv .1))
           (c .if1 .came),

@@ -10,7 +10,7 @@ use native.Mathlib.Omega.{arith}
 use lib.Dec.{eqb, ltb, leb, eqb·zero-suc, eqb·suc-suc}
 use lib.ListN.{length, getD, length-map, List·getD-eq-default}
 use borrow.Author.Tests.{eqb-true, eqb-false, eq-eqb, ne-eqb, ltb-true, ltb-false, lt-ltb, le-ltb, leb-true, not-true}
-use Rattle.lists.specs.Lists.{bit, pick, any, every, keep, find, count, All, joined, upTo, times, among}
+use Rattle.lists.specs.Lists.{bit, pick, anyOf, every, keep, findOr, countOf, All, joined, upTo, times, among}
 use Rattle.lists.specs.Laws.Tests.{both, by-test, by-same, pick-same}
 use Rattle.lists.specs.Laws.All.{all-map, all-change}
 use Rattle.lists.specs.Laws.Sums.{sum-map, sum-keep, length-keep}
@@ -43,15 +43,15 @@ walk-within k heap (suc n) p e = go (ltb 0 s && leb (p + 1 + s) e) refl (walk-wi
     go false t ih = tt
 
 -- the first number below n that passes is below n if one does
-find-any : (f : ℕ → Bool) (n : ℕ) → ltb (find f n (upTo n)) n ≡ any f (upTo n)
-find-any f n = go (any f (upTo n)) refl
+find-any : (f : ℕ → Bool) (n : ℕ) → ltb (findOr f n (upTo n)) n ≡ anyOf f (upTo n)
+find-any f n = go (anyOf f (upTo n)) refl
   where
-    go : (b : Bool) → any f (upTo n) ≡ b → ltb (find f n (upTo n)) n ≡ b
-    go true e = lt-ltb (find f n (upTo n)) n (find-found f n n e .0)
+    go : (b : Bool) → anyOf f (upTo n) ≡ b → ltb (findOr f n (upTo n)) n ≡ b
+    go true e = lt-ltb (findOr f n (upTo n)) n (find-found f n n e .0)
     go false e = rw (find-none f n (upTo n) e) (le-ltb n n (omega arith))
 
 -- where one number below n passes, no two do
-only-one : (f : ℕ → Bool) (n i k : ℕ) → count f (upTo n) ≡ 1 → i < n → k < n → f i ≡ true → f k ≡ true → i ≡ k
+only-one : (f : ℕ → Bool) (n i k : ℕ) → countOf f (upTo n) ≡ 1 → i < n → k < n → f i ≡ true → f k ≡ true → i ≡ k
 only-one f n i k e h l a b = go (by-same i k)
   where
     go : (i ≡ k) ⊎ (i ≢ k) → i ≡ k
@@ -105,9 +105,9 @@ module _ (S : Store) where
   pub leads-among : (q : ℕ) → leads (begin S) (suc q) ≡ among q headers
   unfolding leads
   leads-among q =
-      ap (any (at (suc q))) begin-objects
+      ap (anyOf (at (suc q))) begin-objects
       ∙ any-map (at (suc q)) objectAt headers
-      ∙ ap (λ f. any f headers) (fun-ext (λ x. rw (add-one x) (eqb·suc-suc x q)))
+      ∙ ap (λ f. anyOf f headers) (fun-ext (λ x. rw (add-one x) (eqb·suc-suc x q)))
 
   -- its region is the one that holds that page
   home-page : All (λ o. o .home ≡ holderOf (o .place / 64)) ((begin S) .objects)
@@ -119,7 +119,7 @@ module _ (S : Store) where
   pub home-is : (q : ℕ) → leads (begin S) (suc q) ≡ true → homeOf (begin S) (suc q) ≡ holderOf (q / 64)
   unfolding leads homeOf
   home-is q e =
-      let o : Object = find (at (suc q)) nothing ((begin S) .objects) in
+      let o : Object = findOr (at (suc q)) nothing ((begin S) .objects) in
       let z : o .place + 1 ≡ suc q = eqb-true (o .place + 1) (suc q) (find-passes (at (suc q)) nothing ((begin S) .objects) e) in
       let y : o .place ≡ q = omega arith in
       all-found (λ o. o .home ≡ holderOf (o .place / 64)) (at (suc q)) nothing ((begin S) .objects) home-page e ∙ ap (λ x. holderOf (x / 64)) y
@@ -146,7 +146,7 @@ module _ (S : Store) where
   named-used r h i e = rw (ne-eqb (nameAt (regions S) i) 0 (λ z. h (sym (eqb-true (nameAt (regions S) i) r e) ∙ z)))
 
   -- how often a name stands
-  pub name-times : (r : ℕ) → r ≢ 0 → times r (map (nameAt (regions S)) (entries S)) ≡ count (named r) (upTo 64)
+  pub name-times : (r : ℕ) → r ≢ 0 → times r (map (nameAt (regions S)) (entries S)) ≡ countOf (named r) (upTo 64)
   unfolding entries
   name-times r h =
       sum-map (λ x. bit (eqb x r)) (nameAt (regions S)) (entries S)
@@ -228,7 +228,7 @@ module _ (S : Store) where
 
     -- ---- names that are no other entry's
 
-    module _ (few : (i : ℕ) → nameAt (regions S) i ≢ 0 → count (named (nameAt (regions S) i)) (upTo 64) ≡ 1) where
+    module _ (few : (i : ℕ) → nameAt (regions S) i ≢ 0 → countOf (named (nameAt (regions S) i)) (upTo 64) ≡ 1) where
       one-entry : (i k : ℕ) → nameAt (regions S) i ≢ 0 → nameAt (regions S) k ≡ nameAt (regions S) i → k ≡ i
       one-entry i k h e =
           let r = nameAt (regions S) i in
@@ -242,7 +242,7 @@ module _ (S : Store) where
           (λ e. rw (eqb·suc-suc k i, e) (eq-eqb (nameAt (regions S) k) (nameAt (regions S) i) (ap (nameAt (regions S)) (eqb-true k i e))))
           (λ e. rw (eqb·suc-suc k i, e) (ne-eqb (nameAt (regions S) k) (nameAt (regions S) i) (λ q. eqb-false k i e (one-entry i k h q))))
 
-      find-entry : (i : ℕ) → nameAt (regions S) i ≢ 0 → find (named (nameAt (regions S) i)) 64 (upTo 64) ≡ i
+      find-entry : (i : ℕ) → nameAt (regions S) i ≢ 0 → findOr (named (nameAt (regions S) i)) 64 (upTo 64) ≡ i
       find-entry i h =
           let r = nameAt (regions S) i in
           find-first (named r) 64 64 i (used-below i h) (eq-eqb r r refl) (λ k l. ne-eqb (nameAt (regions S) k) r (λ e. omega (arith, one-entry i k h e)))
@@ -256,6 +256,6 @@ module _ (S : Store) where
       parent-is i h =
           let r = nameAt (regions S) i in
           let f : ℕ → Region = λ i. record { name = nameAt (regions S) i; parent = nameOf (regions S) (parentAt (regions S) i) } in
-          let some : any (named r) (entries S) ≡ true = any-keep (named r) (λ i. not (eqb (nameAt (regions S) i) 0)) (named-used r h) (upTo 64) ∙ any-one (named r) 64 i (used-below i h) (eq-eqb r r refl) in
+          let some : anyOf (named r) (entries S) ≡ true = any-keep (named r) (λ i. not (eqb (nameAt (regions S) i) 0)) (named-used r h) (upTo 64) ∙ any-one (named r) 64 i (used-below i h) (eq-eqb r r refl) in
           ap (λ g. g .parent) (find-changed (λ g. eqb (g .name) r) f (record { name = 0; parent = 0 }) 64 (entries S) some)
           ∙ ap (λ k. nameOf (regions S) (parentAt (regions S) k)) (find-keep (named r) (λ i. not (eqb (nameAt (regions S) i) 0)) 64 (named-used r h) (upTo 64) ∙ find-entry i h)

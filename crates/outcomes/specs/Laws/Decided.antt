@@ -59,8 +59,8 @@ sound-is S e =
       counted = t .1 .1 .1 .1 .1 .1 .1 .1 .1 .1 .1 .1 .0;
       heapLength = t .1 .1 .1 .1 .1 .1 .1 .1 .1 .1 .1 .1 .1 .0;
       distinct = t .1 .1 .1 .1 .1 .1 .1 .1 .1 .1 .1 .1 .1 .1 .0;
-      past = t .1 .1 .1 .1 .1 .1 .1 .1 .1 .1 .1 .1 .1 .1 .1 .0;
-      one = t .1 .1 .1 .1 .1 .1 .1 .1 .1 .1 .1 .1 .1 .1 .1 .1 .0;
+      namesGiven = t .1 .1 .1 .1 .1 .1 .1 .1 .1 .1 .1 .1 .1 .1 .1 .0;
+      permanent = t .1 .1 .1 .1 .1 .1 .1 .1 .1 .1 .1 .1 .1 .1 .1 .1 .0;
       parents = t .1 .1 .1 .1 .1 .1 .1 .1 .1 .1 .1 .1 .1 .1 .1 .1 .1 .0;
       filling = t .1 .1 .1 .1 .1 .1 .1 .1 .1 .1 .1 .1 .1 .1 .1 .1 .1 .1 .0;
       newest = t .1 .1 .1 .1 .1 .1 .1 .1 .1 .1 .1 .1 .1 .1 .1 .1 .1 .1 .1 .0;
@@ -71,7 +71,7 @@ pub is-sound : (S : Store) → Sound S → sound S ≡ true
 unfolding sound
 is-sound S h =
     true-every (λ b. b) (clauses S)
-    (h .counts, (h .slots, (h .words, (h .held, (h .made, (h .declared, (h .sizes, (h .marks, (h .standing, (h .widths, (h .levels, (h .given, (h .counted, (h .heapLength, (h .distinct, (h .past, (h .one, (h .parents, (h .filling, (h .newest, (h .oldest, tt)))))))))))))))))))))
+    (h .counts, (h .slots, (h .words, (h .held, (h .made, (h .declared, (h .sizes, (h .marks, (h .standing, (h .widths, (h .levels, (h .given, (h .counted, (h .heapLength, (h .distinct, (h .namesGiven, (h .permanent, (h .parents, (h .filling, (h .newest, (h .oldest, tt)))))))))))))))))))))
 
 pub sound-or-not : (S : Store) → (Sound S) ⊎ (Sound S → ⊥)
 sound-or-not S = go (sound S) refl

@@ -9,7 +9,7 @@ use native.Mathlib.Omega.{arith}
 use lib.Dec.{eqb, ltb, leb}
 use lib.ListN.{length, replicate}
 use borrow.Author.Tests.{eqb-true, ltb-true, ltb-false, leb-false}
-use Rattle.lists.specs.Lists.{bit, pick, any, All}
+use Rattle.lists.specs.Lists.{bit, pick, anyOf, All}
 use Rattle.lists.specs.Laws.Tests.{neither, both}
 use Rattle.lists.specs.Laws.All.{all-map, all-set, all-replicate}
 use Rattle.lists.specs.Laws.Finds.{any-false}
@@ -178,7 +178,7 @@ unfolding Accepted checks namesOut wrongMarks
 accepted-keeps (declare ms) S a T x h e q =
     let t = passed S (declare ms) e in
     let d = leb-false 16 ((kinds S) .declared) (t .1 .1 .0) in
-    let m = neither (eqb (length ms) 0 || ltb 16 (length ms)) (any (ltb 4) ms) (t .1 .0) in
+    let m = neither (eqb (length ms) 0 || ltb 16 (length ms)) (anyOf (ltb 4) ms) (t .1 .0) in
     let n = neither (eqb (length ms) 0) (ltb 16 (length ms)) (m .0) in
     let k = with-kind (kinds S) ms (h .inKinds) d (ltb-false 16 (length ms) (n .1)) (all-map (λ m f. ltb-false 4 m f) ms (any-false (ltb 4) ms (m .1))) in
     both-of a _ T _ q (with-kinds-shaped S h _ k) (one ((kinds S) .declared + 1) (omega arith))

@@ -9,7 +9,7 @@ use native.Mathlib.Omega.{arith}
 use lib.Dec.{eqb, ltb, eqb·suc-zero}
 use lib.ListN.{length, getD, List·getD-eq-default}
 use borrow.Author.Tests.{eqb-true, eqb-false, ne-eqb, ltb-true, ltb-false, lt-leb}
-use Rattle.lists.specs.Lists.{bit, pick, every, keep, sum, count, All, joined, upTo, times}
+use Rattle.lists.specs.Lists.{bit, pick, every, keep, sumOf, countOf, All, joined, upTo, times}
 use Rattle.lists.specs.Laws.Tests.{by-test, or-other, pick-same}
 use Rattle.lists.specs.Laws.All.{all-map, all-both}
 use Rattle.lists.specs.Laws.Sums.{sum-map, sum-keep, sum-same, sum-joined}
@@ -26,15 +26,15 @@ use Rattle.outcomes.specs.History.{Object, Word, begin, listedKinds, lis
 use Rattle.outcomes.specs.History as history
 use Rattle.outcomes.specs.Laws.Begin.{holderOf, headersOf, headers, objectAt, begin-objects, page-of, leads-null, home-is, home-none, name-same}
 
--- how many words marked 1 on page j lead into the region with tag t: none if the page is free or is that region's
+-- how many words wordMarked 1 on page j lead into the region with tag t: none if the page is free or is that region's
 unfoldable pub wordsInto : Store → ℕ → ℕ → ℕ
-wordsInto S t j = pick (eqb (ownerAt (pages S) j) 0 || eqb (ownerAt (pages S) j) t) 0 (count (λ v. eqb (ownerOf (pages S) v) t) (freeWordsOn (kinds S) (S .heap) (pages S) j))
+wordsInto S t j = pick (eqb (ownerAt (pages S) j) 0 || eqb (ownerAt (pages S) j) t) 0 (countOf (λ v. eqb (ownerOf (pages S) v) t) (freeWordsOn (kinds S) (S .heap) (pages S) j))
 
 -- how many slots of frame i do; and slot by slot
 unfoldable pub slotsInto : Store → ℕ → ℕ → ℕ
 slotsInto S t i = times t (slotTargets S i)
 
-pub slots-sum : (S : Store) (t i : ℕ) → slotsInto S t i ≡ count (λ s. eqb (ownerOf (pages S) (slotAt (frames S) i s)) t) (upTo (widthAt (frames S) i))
+pub slots-sum : (S : Store) (t i : ℕ) → slotsInto S t i ≡ countOf (λ s. eqb (ownerOf (pages S) (slotAt (frames S) i s)) t) (upTo (widthAt (frames S) i))
 unfolding slotsInto slotTargets targetsIn ownerOf slotAt widthAt
 slots-sum S t i = sum-map (λ o. bit (eqb o t)) (λ s. ownerIn ((pages S) .owners) (slotIn ((frames S) .slots) i s)) (upTo (widthIn ((frames S) .widths) i))
 
@@ -89,37 +89,37 @@ module _ (S : Store) where
   valueAt q w = getD (S .heap) (q + 1 + w) 0
 
   module _ (o : Object) where
-    abbrev marked : ℕ → Word
-    marked w = record { mark = getD (marks (listedKinds S) (o .kind)) w 0; value = valueAt (o .place) w }
+    abbrev wordMarked : ℕ → Word
+    wordMarked w = record { mark = getD (marks (listedKinds S) (o .kind)) w 0; value = valueAt (o .place) w }
 
     pub every-pointer : (f : ℕ → ℕ → Bool) → every (λ x. f (x .mark) (x .value)) (pointersOf (begin S) S o)
         ≡ every (λ w. eqb (markAt (kinds S) (o .kind) w) 0 || f (markAt (kinds S) (o .kind) w) (valueAt (o .place) w)) (upTo (sizeOf (kinds S) (o .kind)))
     unfolding begin pointersOf
     every-pointer f =
         let ms = marks (listedKinds S) (o .kind) in
-        every-keep (λ x. f (x .mark) (x .value)) (λ x. eqb (x .mark) 0) (map marked (upTo (length ms)))
-        ∙ every-map (λ x. eqb (x .mark) 0 || f (x .mark) (x .value)) marked (upTo (length ms))
+        every-keep (λ x. f (x .mark) (x .value)) (λ x. eqb (x .mark) 0) (map wordMarked (upTo (length ms)))
+        ∙ every-map (λ x. eqb (x .mark) 0 || f (x .mark) (x .value)) wordMarked (upTo (length ms))
         ∙ every-below _ (λ w. eqb (markAt (kinds S) (o .kind) w) 0 || f (markAt (kinds S) (o .kind) w) (valueAt (o .place) w)) (length ms) (λ w h. rw (marks-at (o .kind) w h))
         ∙ ap (λ n. every (λ w. eqb (markAt (kinds S) (o .kind) w) 0 || f (markAt (kinds S) (o .kind) w) (valueAt (o .place) w)) (upTo n)) (sym (marks-length (o .kind)))
 
-    -- those marked 1 that pass
+    -- those wordMarked 1 that pass
     abbrev passing : (ℕ → Bool) → ℕ → ℕ
     passing f w = pick (eqb (markAt (kinds S) (o .kind) w) 1) (bit (f (valueAt (o .place) w))) 0
 
-    count-pointers : (f : ℕ → Bool) → count (λ x. eqb (x .mark) 1 && f (x .value)) (pointersOf (begin S) S o) ≡ sum (passing f) (upTo (sizeOf (kinds S) (o .kind)))
+    count-pointers : (f : ℕ → Bool) → countOf (λ x. eqb (x .mark) 1 && f (x .value)) (pointersOf (begin S) S o) ≡ sumOf (passing f) (upTo (sizeOf (kinds S) (o .kind)))
     unfolding begin pointersOf
     count-pointers f =
         let ms = marks (listedKinds S) (o .kind) in
         let g : Word → ℕ = λ x. bit (eqb (x .mark) 1 && f (x .value)) in
-        sum-keep g (λ x. not (eqb (x .mark) 0)) (map marked (upTo (length ms)))
-        ∙ sum-map (λ x. pick (not (eqb (x .mark) 0)) (g x) 0) marked (upTo (length ms))
+        sum-keep g (λ x. not (eqb (x .mark) 0)) (map wordMarked (upTo (length ms)))
+        ∙ sum-map (λ x. pick (not (eqb (x .mark) 0)) (g x) 0) wordMarked (upTo (length ms))
         ∙ sum-below _ (passing f) (length ms) (λ w h. rw (marks-at (o .kind) w h) (go (getD ms w 0) (f (valueAt (o .place) w))))
-        ∙ ap (λ n. sum (passing f) (upTo n)) (sym (marks-length (o .kind)))
+        ∙ ap (λ n. sumOf (passing f) (upTo n)) (sym (marks-length (o .kind)))
       where
         go : (m : ℕ) (b : Bool) → pick (not (eqb m 0)) (bit (eqb m 1 && b)) 0 ≡ pick (eqb m 1) (bit b) 0
         go m b = by-test (eqb m 1) (λ e. rw (e, ne-eqb m 0 (λ z. omega (arith, eqb-true m 1 e)))) (λ e. rw e (pick-same {A = ℕ} (not (eqb m 0)) 0))
 
-  pub free-count : (q : ℕ) (f : ℕ → Bool) → count (λ x. eqb (x .mark) 1 && f (x .value)) (pointersOf (begin S) S (objectAt S q)) ≡ count f (freeWords (kinds S) (S .heap) q)
+  pub free-count : (q : ℕ) (f : ℕ → Bool) → countOf (λ x. eqb (x .mark) 1 && f (x .value)) (pointersOf (begin S) S (objectAt S q)) ≡ countOf f (freeWords (kinds S) (S .heap) q)
   unfolding freeWords
   free-count q f =
       let k = getD (S .heap) q 0 in
@@ -129,7 +129,7 @@ module _ (S : Store) where
 -- names are distinct, and a page that is not free is owned by a region that lives
 pub record Ordered (S : Store) : Type 0 where
   pub names : length ((regions S) .names) ≡ 64
-  pub few : (i : ℕ) → nameAt (regions S) i ≢ 0 → count (λ k. eqb (nameAt (regions S) k) (nameAt (regions S) i)) (upTo 64) ≡ 1
+  pub few : (i : ℕ) → nameAt (regions S) i ≢ 0 → countOf (λ k. eqb (nameAt (regions S) k) (nameAt (regions S) i)) (upTo 64) ≡ 1
   pub owned : (j : ℕ) → j < pageCount (pages S) → ownerAt (pages S) j ≢ 0 → holderOf S j ≢ 0
 
 module _ (S : Store) (h : Ordered S) where
@@ -161,7 +161,7 @@ module _ (S : Store) (h : Ordered S) where
 
     -- what the objects of page j add
     on-page : (j : ℕ) → j < pageCount (pages S) → (ownerAt (pages S) j ≢ 0 → All (λ q. All Known (freeWords (kinds S) (S .heap) q)) (headersOn (kinds S) (S .heap) (pages S) j))
-        → sum (λ q. history.wordsLeadingTo (begin S) S (nameAt (regions S) i) (objectAt S q)) (headersOf S j) ≡ wordsInto S (suc i) j
+        → sumOf (λ q. history.wordsLeadingTo (begin S) S (nameAt (regions S) i) (objectAt S q)) (headersOf S j) ≡ wordsInto S (suc i) j
     unfolding history.wordsLeadingTo wordsInto freeWordsOn nameOf nameIn headersOn
     on-page j l k = by-test (eqb (ownerAt (pages S) j) 0)
         (λ z. rw (z, eqb-true (ownerAt (pages S) j) 0 z))
@@ -171,27 +171,27 @@ module _ (S : Store) (h : Ordered S) where
         let t : Bool = eqb (ownerAt (pages S) j) (suc i) in
         let e = ne-eqb (holderOf S j) 0 (h .owned j l m) in
         rw (z, e)
-        (sum-same _ (λ q. pick t 0 (count (λ v. eqb (ownerOf (pages S) v) (suc i)) (freeWords (kinds S) (S .heap) q))) hs (all-map (λ q a. one j q (a .0) (a .1)) hs (all-both _ _ hs (rw e at (page-of S j)) (k m)))
+        (sum-same _ (λ q. pick t 0 (countOf (λ v. eqb (ownerOf (pages S) v) (suc i)) (freeWords (kinds S) (S .heap) q))) hs (all-map (λ q a. one j q (a .0) (a .1)) hs (all-both _ _ hs (rw e at (page-of S j)) (k m)))
         ∙ all t hs))
       where
         one : (j q : ℕ) → q / 64 ≡ j → All Known (freeWords (kinds S) (S .heap) q)
-            → pick (eqb (holderOf S (q / 64)) (nameAt (regions S) i)) 0 (count (λ x. eqb (x .mark) 1 && eqb (homeOf (begin S) (x .value)) (nameAt (regions S) i)) (pointersOf (begin S) S (objectAt S q)))
-            ≡ pick (eqb (ownerAt (pages S) j) (suc i)) 0 (count (λ v. eqb (ownerOf (pages S) v) (suc i)) (freeWords (kinds S) (S .heap) q))
+            → pick (eqb (holderOf S (q / 64)) (nameAt (regions S) i)) 0 (countOf (λ x. eqb (x .mark) 1 && eqb (homeOf (begin S) (x .value)) (nameAt (regions S) i)) (pointersOf (begin S) S (objectAt S q)))
+            ≡ pick (eqb (ownerAt (pages S) j) (suc i)) 0 (countOf (λ v. eqb (ownerOf (pages S) v) (suc i)) (freeWords (kinds S) (S .heap) q))
         one j q e a =
             rw (free-count S q (λ v. eqb (homeOf (begin S) v) (nameAt (regions S) i)), e, name-same S (h .names) (h .few) (ownerAt (pages S) j) i n)
             (ap (pick (eqb (ownerAt (pages S) j) (suc i)) 0) (sum-same _ _ (freeWords (kinds S) (S .heap) q) (all-map (λ v b. ap bit (home-tag v i b n)) (freeWords (kinds S) (S .heap) q) a)))
 
-        all : (t : Bool) (hs : List ℕ) → sum (λ q. pick t 0 (count (λ v. eqb (ownerOf (pages S) v) (suc i)) (freeWords (kinds S) (S .heap) q))) hs
-            ≡ pick t 0 (count (λ v. eqb (ownerOf (pages S) v) (suc i)) (joined (freeWords (kinds S) (S .heap)) hs))
+        all : (t : Bool) (hs : List ℕ) → sumOf (λ q. pick t 0 (countOf (λ v. eqb (ownerOf (pages S) v) (suc i)) (freeWords (kinds S) (S .heap) q))) hs
+            ≡ pick t 0 (countOf (λ v. eqb (ownerOf (pages S) v) (suc i)) (joined (freeWords (kinds S) (S .heap)) hs))
         all true [] = refl
         all true (q ∷ qs) = omega (arith, all true qs)
         all false hs = sym (sum-joined (λ v. bit (eqb (ownerOf (pages S) v) (suc i))) (freeWords (kinds S) (S .heap)) hs)
 
     pub words-into : ((j : ℕ) → j < pageCount (pages S) → ownerAt (pages S) j ≢ 0 → All (λ q. All Known (freeWords (kinds S) (S .heap) q)) (headersOn (kinds S) (S .heap) (pages S) j))
-        → sum (history.wordsLeadingTo (begin S) S (nameAt (regions S) i)) ((begin S) .objects) ≡ sum (wordsInto S (suc i)) (upTo (pageCount (pages S)))
+        → sumOf (history.wordsLeadingTo (begin S) S (nameAt (regions S) i)) ((begin S) .objects) ≡ sumOf (wordsInto S (suc i)) (upTo (pageCount (pages S)))
     words-into k =
         let f = history.wordsLeadingTo (begin S) S (nameAt (regions S) i) in
-        ap (sum f) (begin-objects S)
+        ap (sumOf f) (begin-objects S)
         ∙ sum-map f (objectAt S) (headers S)
         ∙ sum-joined (λ q. f (objectAt S q)) (headersOf S) (upTo (pageCount (pages S)))
-        ∙ sum-below (λ j. sum (λ q. f (objectAt S q)) (headersOf S j)) (wordsInto S (suc i)) (pageCount (pages S)) (λ j l. on-page j l (k j l))
+        ∙ sum-below (λ j. sumOf (λ q. f (objectAt S q)) (headersOf S j)) (wordsInto S (suc i)) (pageCount (pages S)) (λ j l. on-page j l (k j l))

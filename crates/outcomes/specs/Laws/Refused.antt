@@ -9,7 +9,7 @@ use native.Mathlib.Omega.{arith}
 use lib.Dec.{eqb}
 use lib.ListN.{getD}
 use borrow.Author.Tests.{eq-eqb, eqb-false, lt-ltb}
-use Rattle.lists.specs.Lists.{pick, any, count, find, upTo}
+use Rattle.lists.specs.Lists.{pick, anyOf, countOf, findOr, upTo}
 use Rattle.lists.specs.Laws.Finds.{any-count}
 use Rattle.lists.specs.Laws.UpTo.{find-found}
 use Rattle.model.specs.Model.{Answer, Call, declare, newRegion, subregion, push, dropFrame, handBack, allocate, first, copy, fetch, clear, load, setPointer, put, get, view, same, about, report, totals, audit, delete, gives, refusedBy}
@@ -104,9 +104,9 @@ unfolding pagesOf isFree pagesIn ownerAt pageCount
 free-page p e =
     let n = pageCount p in
     let f : ℕ → Bool = λ j. eqb (ownerAt p j) 0 in
-    let some : any f (upTo n) ≡ true = any-count f (upTo n) ∙ lt-ltb 0 (count f (upTo n)) (omega (arith, eqb-false (count f (upTo n)) 0 e)) in
+    let some : anyOf f (upTo n) ≡ true = any-count f (upTo n) ∙ lt-ltb 0 (countOf f (upTo n)) (omega (arith, eqb-false (countOf f (upTo n)) 0 e)) in
     let q = find-found f 0 n some in
-    (find f 0 (upTo n), rw (lt-ltb (find f 0 (upTo n)) n (q .0)) (q .1))
+    (findOr f 0 (upTo n), rw (lt-ltb (findOr f 0 (upTo n)) n (q .0)) (q .1))
 
 -- a page for an object of n words: the newest where it fits, else one that is free
 choice : (S : Store) (i n : ℕ) → (not (roomy S i n) && eqb (pagesOf (pages S) 0) 0) ≡ false → (j : ℕ) × Chosen S i n j

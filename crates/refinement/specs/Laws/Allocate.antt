@@ -11,7 +11,7 @@ use lib.Dec.{eqb, ltb}
 use lib.ListN.{length, getD, replicate}
 use lib.Seq.{sets, length-sets}
 use borrow.Author.Tests.{eqb-true, eq-eqb, ne-eqb, ltb-true, leb-true, leb-false}
-use Rattle.lists.specs.Lists.{bit, pick, sum}
+use Rattle.lists.specs.Lists.{bit, pick, sumOf}
 use Rattle.lists.specs.Laws.Tests.{both, by-same}
 use Rattle.lists.specs.Laws.All.{all-map, all-at}
 use Rattle.lists.specs.Laws.Sums.{sum-map}
@@ -187,7 +187,7 @@ module _ (L : Model) (sp : List ℕ) (g : Regions) (v : Valid L) (ra : RegionsAg
   unfolding addObject change grown withPage nameAt parentAt levelAt
   regions-made = record {
     given = ra .given;
-    rows = λ f. ra .rows f ∙ sym (sum-map (λ x. f (x .name)) (change r (size L k) (newId L)) (L .regions) ∙ ap (λ h. sum h (L .regions)) (fun-ext (λ x. ap f (name-kept r (size L k) (newId L) x))));
+    rows = λ f. ra .rows f ∙ sym (sum-map (λ x. f (x .name)) (change r (size L k) (newId L)) (L .regions) ∙ ap (λ h. sumOf h (L .regions)) (fun-ext (λ x. ap f (name-kept r (size L k) (newId L) x))));
     entry = by-region L r k (λ q x. EntryAgrees (sp ++ (a ∷ [])) x (withPage g i (j + 1) o) (entryOf (withPage g i (j + 1) o) q)) lr
         (let e = ra .entry r lr in rw (page-entry g i (j + 1) o r) (record {
           parent = e .parent ∙ sym (for-page g i (j + 1) o ((region (L .regions) r) .parent));

@@ -9,7 +9,7 @@ use native.Mathlib.Omega.{arith}
 use lib.Dec.{eqb}
 use lib.ListN.{length, getD, drop}
 use lib.Seq.{take-length}
-use Rattle.lists.specs.Lists.{bit, sum, times, from}
+use Rattle.lists.specs.Lists.{bit, sumOf, times, from}
 use Rattle.lists.specs.Laws.Tests.{both, or-other}
 use Rattle.lists.specs.Laws.All.{all₂-in}
 use Rattle.lists.specs.Laws.Sums.{sum-same}
@@ -42,7 +42,7 @@ count-is {g = g} a r l come gone n e h =
 pub word-known : (L : Model) → Valid L → (q w : ℕ) → Alive L q → w < length (wordsIn L q) → eqb (getD (marks (L .kinds) ((object (L .objects) q) .kind)) w 0) 0 ≡ false → Known L (getD (wordsIn L q) w 0)
 word-known L v q w l k m =
     let o = object-valid L v q l in
-    let f = all₂-in _ (marks (L .kinds) ((object (L .objects) q) .kind)) (wordsIn L q) w 0 0 (o .marked l) (omega (arith, o .sized)) k in
+    let f = all₂-in _ (marks (L .kinds) ((object (L .objects) q) .kind)) (wordsIn L q) w 0 0 (o .fineWords l) (omega (arith, o .sized)) k in
     both _ _ (or-other (eqb (getD (marks (L .kinds) ((object (L .objects) q) .kind)) w 0) 0) _ f m) .0
 
 -- the owner of a pointer's page is r where the model says that the pointer leads into r
@@ -53,7 +53,7 @@ leads-into {L = L} a o r l q k = rw (owner-is o a q k, ← (tag-for a r l)) (for
 -- as many slots of frame i lead into r
 pub slots-into : {L : Model} {sp : List ℕ} {ids : ℕ → List ℕ} (S : Store) → Valid L → FramesAgree sp (L .frames) (L .counted) (frames S)
     → RegionsAgree L sp (regions S) → ObjectsAgree L sp ids (regions S) (pages S) (S .heap) → (r : ℕ) → livesIn L r ≡ true
-    → (i : ℕ) → i < length (L .frames) → times (tagOf (regions S) r) (slotTargets S i) ≡ sum (into (homeIn L) r) (getD (L .frames) i [])
+    → (i : ℕ) → i < length (L .frames) → times (tagOf (regions S) r) (slotTargets S i) ≡ sumOf (into (homeIn L) r) (getD (L .frames) i [])
 unfolding slotsInto
 slots-into {L = L} S v fs a o r l i k =
     let f = getD (L .frames) i [] in
@@ -72,6 +72,6 @@ slots-beyond {L = L} S v fs a o r l =
     let f = L .frames in
     let m = L .counted in
     let e : m + (length f - m) ≡ length f = omega (arith, v .frames .mark) in
-    ap₂ (λ k n. sum (λ i. times t (slotTargets S i)) (from k (n - k))) (fs .counted) (frame-count fs (v .frames .many))
-    ∙ sum-same _ (λ i. sum (into (homeIn L) r) (getD f i [])) (from m (length f - m)) (all-from _ m (length f - m) (λ i b c. slots-into S v fs a o r l i (omega arith)))
-    ∙ sum-part (sum (into (homeIn L) r)) f [] m (length f - m) (length f) e (omega arith) ∙ ap (λ x. sum (sum (into (homeIn L) r)) (drop m x)) (take-length f)
+    ap₂ (λ k n. sumOf (λ i. times t (slotTargets S i)) (from k (n - k))) (fs .counted) (frame-count fs (v .frames .many))
+    ∙ sum-same _ (λ i. sumOf (into (homeIn L) r) (getD f i [])) (from m (length f - m)) (all-from _ m (length f - m) (λ i b c. slots-into S v fs a o r l i (omega arith)))
+    ∙ sum-part (sumOf (into (homeIn L) r)) f [] m (length f - m) (length f) e (omega arith) ∙ ap (λ x. sumOf (sumOf (into (homeIn L) r)) (drop m x)) (take-length f)

@@ -10,13 +10,13 @@ use lib.Dec.{eqb}
 use lib.ListN.{length, getD, take, drop}
 use lib.Seq.{take-take}
 use borrow.Author.Tests.{eqb-true, eqb-false, eq-eqb, ne-eqb, not-false}
-use Rattle.lists.specs.Lists.{bit, pick, sum, sum₂, keep, All, from, upTo, times, joined}
+use Rattle.lists.specs.Lists.{bit, pick, sumOf, sumOf₂, keep, All, from, upTo, times, joined}
 use Rattle.lists.specs.Laws.Tests.{by-test, pick-same, eqb-sym}
 use Rattle.lists.specs.Laws.All.{all-map}
 use Rattle.lists.specs.Laws.Sums.{sum-same, sum-map, sum-keep, sum-joined, sum-split}
 use Rattle.lists.specs.Laws.Finds.{times-keep, sum-without}
 use Rattle.lists.specs.Laws.UpTo.{all-from, sum-below, sum-part, sum-change}
-use Rattle.model.specs.Model.{Model, Answer, noRegion, delete, called, live, region, marks, livesIn, homeIn, parentIn, subregions, last, into, freeInto, inFrames, outside, stored}
+use Rattle.model.specs.Model.{Model, Answer, noRegion, delete, called, live, region, marks, livesIn, homeIn, parentIn, subregions, topPlace, into, freeInto, inFrames, outside, stored}
 use Rattle.model.specs.Calls.{checks, refusal, reply, accepted, others, removeRegion}
 use Rattle.model.specs.Valid.{Valid}
 use Rattle.model.specs.Moves.{newly, fromRegion}
@@ -91,12 +91,12 @@ module _ {L : Model} {sp : List ℕ} {g : Regions} (v : Valid L) (a : RegionsAgr
     });
   }
     where
-      without : (f : ℕ → ℕ) → sum (λ x. f (x .name)) (others (L .regions) r) + f r ≡ sum (λ x. f (x .name)) (L .regions)
+      without : (f : ℕ → ℕ) → sumOf (λ x. f (x .name)) (others (L .regions) r) + f r ≡ sumOf (λ x. f (x .name)) (L .regions)
       without f =
-          ap (λ n. sum (λ x. f (x .name)) (others (L .regions) r) + f n) (sym (name-is (L .regions) r l))
+          ap (λ n. sumOf (λ x. f (x .name)) (others (L .regions) r) + f n) (sym (name-is (L .regions) r l))
           ∙ sum-without (called r) (λ x. f (x .name)) noRegion (L .regions) (distinct-one (L .regions) r (v .names .distinct) l)
 
-      rows : (f : ℕ → ℕ) → sum (λ i. pick (eqb (nameAt left i) 0) 0 (f (nameAt left i))) (upTo 64) ≡ sum (λ x. f (x .name)) (others (L .regions) r)
+      rows : (f : ℕ → ℕ) → sumOf (λ i. pick (eqb (nameAt left i) 0) 0 (f (nameAt left i))) (upTo 64) ≡ sumOf (λ x. f (x .name)) (others (L .regions) r)
       rows f =
           let has : Regions → ℕ → ℕ = λ g i. pick (eqb (nameAt g i) 0) 0 (f (nameAt g i)) in
           let z : has left (entryOf g r) ≡ 0 = rw (name-removed g (entryOf g r) entry-below) in
@@ -164,7 +164,7 @@ module _ {L : Model} {sp : List ℕ} {g : Regions} (v : Valid L) (a : RegionsAgr
             (all-map (λ q e. kept q (e .0) (λ d. held j h n .1 (e .1 ∙ ap (tagOf g) d))) (ids j) (homes-on v o j h (held j h n .0)))
             (o .tiled j h (held j h n .0));
         once = λ q h f. let m = other q h in
-            sum-below _ _ (p .made) (λ j i. ap (λ b. pick b (sum f (ids j)) 0) (ap (eqb (ownerAt free j)) (tag-kept q h) ∙ gone-other p (tagOf g r) j (tagOf g q) (counted j i) (tag-some g q) (tag-apart q h)))
+            sum-below _ _ (p .made) (λ j i. ap (λ b. pick b (sumOf f (ids j)) 0) (ap (eqb (ownerAt free j)) (tag-kept q h) ∙ gone-other p (tagOf g r) j (tagOf g q) (counted j i) (tag-some g q) (tag-apart q h)))
             ∙ o .once q (m .0) f;
       }
         where
@@ -181,7 +181,7 @@ module _ {L : Model} {sp : List ℕ} {g : Regions} (v : Valid L) (a : RegionsAgr
           page q h = counted ((spot sp q - 1) / 64) (in-page (spot sp q) (length (wordsIn L q)) (length heap) (p .made) (o .laid q h .placed) (o .laid q h .inside) (all ∙ b .whole))
 
 -- all frames but the top one are counted
-frames-raised : {sp : List ℕ} {fs : List (List ℕ)} {m : ℕ} {f : Frames} → FramesAgree sp fs m f → FramesAgree sp fs (last fs) (raised f)
+frames-raised : {sp : List ℕ} {fs : List (List ℕ)} {m : ℕ} {f : Frames} → FramesAgree sp fs m f → FramesAgree sp fs (topPlace fs) (raised f)
 unfolding raised widthAt slotAt
 frames-raised a = record { standing = a .standing; counted = top-frame a; widths = a .widths; slots = a .slots }
 
@@ -193,12 +193,12 @@ module _ {L : Model} {sp : List ℕ} {ids : ℕ → List ℕ} (S : Store) (v : V
   unfolding newlyCounted newlyIn slotTargets frameCount newly inFrames
   come-are =
       let m = L .counted in
-      let n = last (L .frames) in
+      let n = topPlace (L .frames) in
       ap₂ (λ m n. times (tagOf (regions S) q) (joined (slotTargets S) (from m (n - 1 - m)))) (h .onFrames .counted) (frame-count (h .onFrames) (v .frames .many))
       ∙ sum-joined (λ t. bit (eqb t (tagOf (regions S) q))) (slotTargets S) (from m (n - m))
-      ∙ sum-same _ (λ i. sum (into (homeIn L) q) (getD (L .frames) i [])) (from m (n - m))
+      ∙ sum-same _ (λ i. sumOf (into (homeIn L) q) (getD (L .frames) i [])) (from m (n - m))
       (all-from _ m (n - m) (λ i a b. slots-into S v (h .onFrames) (h .onRegions) (h .onObjects) q l i (below (length (L .frames)) m i a b)))
-      ∙ sum-part (sum (into (homeIn L) q)) (L .frames) [] m (n - m) n (fill (length (L .frames)) m (v .frames .mark)) (omega arith)
+      ∙ sum-part (sumOf (into (homeIn L) q)) (L .frames) [] m (n - m) n (fill (length (L .frames)) m (v .frames .mark)) (omega arith)
     where
       below : (n m i : ℕ) → m ≤ i → i < m + (n - 1 - m) → i < n
       below n m i a b = omega arith
@@ -220,15 +220,15 @@ module _ {L : Model} {sp : List ℕ} {ids : ℕ → List ℕ} (S : Store) (v : V
       ∙ ap (λ b. pick (not b) (times u (map (ownerOf P) (joined W (keep mine (upTo (pageCount P)))))) 0) (tag-same (h .onRegions) q r l m ∙ n)
       ∙ sum-map (λ x. bit (eqb x u)) (ownerOf P) (joined W (keep mine (upTo (pageCount P))))
       ∙ sum-joined leads W (keep mine (upTo (pageCount P)))
-      ∙ sum-keep (λ j. sum leads (W j)) mine (upTo (pageCount P))
-      ∙ ap (λ n. sum (λ j. pick (mine j) (sum leads (W j)) 0) (upTo n)) (page-count (h .onPages))
-      ∙ sum-below _ (λ j. pick (mine j) (sum (weight L q) (ids j)) 0) (P .made) page
+      ∙ sum-keep (λ j. sumOf leads (W j)) mine (upTo (pageCount P))
+      ∙ ap (λ n. sumOf (λ j. pick (mine j) (sumOf leads (W j)) 0) (upTo n)) (page-count (h .onPages))
+      ∙ sum-below _ (λ j. pick (mine j) (sumOf (weight L q) (ids j)) 0) (P .made) page
       ∙ h .onObjects .once r m (weight L q)
-      ∙ ids-objects L (λ o. pick (eqb (o .home) r) (sum₂ (freeInto (homeIn L) q) (marks (L .kinds) (o .kind)) (o .words)) 0)
+      ∙ ids-objects L (λ o. pick (eqb (o .home) r) (sumOf₂ (freeInto (homeIn L) q) (marks (L .kinds) (o .kind)) (o .words)) 0)
     where
       page : (j : ℕ) → j < (pages S) .made
-          → pick (eqb (ownerAt (pages S) j) (tagOf (regions S) r)) (sum (λ x. bit (eqb (ownerOf (pages S) x) (tagOf (regions S) q))) (freeWordsOn (kinds S) (S .heap) (pages S) j)) 0
-          ≡ pick (eqb (ownerAt (pages S) j) (tagOf (regions S) r)) (sum (weight L q) (ids j)) 0
+          → pick (eqb (ownerAt (pages S) j) (tagOf (regions S) r)) (sumOf (λ x. bit (eqb (ownerOf (pages S) x) (tagOf (regions S) q))) (freeWordsOn (kinds S) (S .heap) (pages S) j)) 0
+          ≡ pick (eqb (ownerAt (pages S) j) (tagOf (regions S) r)) (sumOf (weight L q) (ids j)) 0
       page j i = by-test (eqb (ownerAt (pages S) j) (tagOf (regions S) r))
           (λ e. ap (λ n. pick (eqb (ownerAt (pages S) j) (tagOf (regions S) r)) n 0) (page-words L sp ids S v (h .onKinds) (h .onRegions) (h .onPages) (h .onObjects) q l j i
           (λ z. tag-some (regions S) r (sym (eqb-true (ownerAt (pages S) j) (tagOf (regions S) r) e) ∙ z))))
@@ -238,9 +238,9 @@ module _ {L : Model} {sp : List ℕ} {ids : ℕ → List ℕ} (S : Store) (v : V
   come-most : inFrames (homeIn L) q (newly L) ≤ inFrames (homeIn L) q (drop (L .counted) (L .frames))
   unfolding newly inFrames
   come-most =
-      let f : List ℕ → ℕ = sum (into (homeIn L) q) in
+      let f : List ℕ → ℕ = sumOf (into (homeIn L) q) in
       let fs = L .frames in
-      parts _ _ _ _ _ _ _ (sum-split f (L .counted) fs) (sum-split f (last fs) fs) (sum-split f (L .counted) (take (last fs) fs)) (ap (sum f) (take-take (L .counted) (last fs) fs (v .frames .mark)))
+      parts _ _ _ _ _ _ _ (sum-split f (L .counted) fs) (sum-split f (topPlace fs) fs) (sum-split f (L .counted) (take (topPlace fs) fs)) (ap (sumOf f) (take-take (L .counted) (topPlace fs) fs (v .frames .mark)))
     where
       parts : (all low rest below top low₂ new : ℕ) → all ≡ low + rest → all ≡ below + top → below ≡ low₂ + new → low₂ ≡ low → new ≤ rest
       parts all low rest below top low₂ new a b c d = omega arith

@@ -73,7 +73,7 @@ module _ (n : ℕ) where
   unfolding blank widthAt slotAt nameAt entryOf tagOf parentAt levelAt newestAt oldestAt countAt stored inWords inFrames g k entryIn
   fresh-represents low high = record {
     onFrames = record { standing = refl; counted = refl; widths = λ i h. absurd (omega arith); slots = λ i s h l. absurd (omega arith) };
-    onKinds = record { declared = refl; sizes = no-kind; few = λ m h. absurd (omega arith); marked = λ m w h. absurd (unmarked m w h) };
+    onKinds = record { declared = refl; sizes = no-kind; few = λ m h. absurd (omega arith); marksAgree = λ m w h. absurd (unmarked m w h) };
     onRegions = record {
       given = refl;
       rows = λ f. refl;

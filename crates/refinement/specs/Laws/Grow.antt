@@ -10,7 +10,7 @@ use lib.Dec.{eqb, ltb, leb}
 use lib.ListN.{length, getD, set, take, length-append, List·getD-eq-default}
 use lib.Seq.{getD-set-same, getD-set-other, getD-at}
 use borrow.Author.Tests.{eq-eqb, ne-eqb, lt-ltb, ltb-false, le-leb, lt-leb, leb-true, leb-false, not-false}
-use Rattle.lists.specs.Lists.{bit, pick, any, sum, sum₂, upTo}
+use Rattle.lists.specs.Lists.{bit, pick, anyOf, sumOf, sumOf₂, upTo}
 use Rattle.lists.specs.Laws.Tests.{neither, pick-same, by-test, by-same}
 use Rattle.lists.specs.Laws.Sums.{sum-append, sum-nothing, sum₂-nothing}
 use Rattle.lists.specs.Laws.Finds.{find-append}
@@ -78,7 +78,7 @@ module _ (ks : List (List ℕ)) (ms : List ℕ) (k : Kinds) (a : KindsAgree ks k
   unfolding markAt withKind
   kind-marks zero w = λ h. absurd (omega arith)
   kind-marks (suc m) w = by-kind (λ l. w < length l → markAt (withKind k ms) (suc m) w ≡ getD l w 0) ks ms m
-      (λ h l. getD-sets-out ms (k .marks) (16 * k .declared) (16 * (suc m - 1) + w) 0 (inl (omega (arith, a .declared, shorts (suc m)))) ∙ a .marked (suc m) w l)
+      (λ h l. getD-sets-out ms (k .marks) (16 * k .declared) (16 * (suc m - 1) + w) 0 (inl (omega (arith, a .declared, shorts (suc m)))) ∙ a .marksAgree (suc m) w l)
       (λ e l. rw (d, e, ← (a .declared)) (getD-sets-in ms (k .marks) (16 * k .declared) w 0 (omega (arith, a .declared, s .marks .0)) l))
       (λ h l. absurd (omega arith))
     where
@@ -87,7 +87,7 @@ module _ (ks : List (List ℕ)) (ms : List ℕ) (k : Kinds) (a : KindsAgree ks k
 
   pub kinds-more : KindsAgree (ks ++ (ms ∷ [])) (withKind k ms)
   unfolding withKind
-  kinds-more = record { declared = simp length-append (omega (arith, a .declared)); sizes = kind-size; few = kind-few; marked = kind-marks }
+  kinds-more = record { declared = simp length-append (omega (arith, a .declared)); sizes = kind-size; few = kind-few; marksAgree = kind-marks }
 
 module _ (L : Model) (sp : List ℕ) (ids : ℕ → List ℕ) (S : Store) (v : Valid L) (sh : Shaped S) (rep : Represents L sp ids S) where
   pub declare-step : (ms : List ℕ) → refusal L (declare ms) ≡ 0 → (a : Answer) (T : Store) → Accepted (declare ms) S a T
@@ -95,7 +95,7 @@ module _ (L : Model) (sp : List ℕ) (ids : ℕ → List ℕ) (S : Store) (v : V
   unfolding checks reply accepted Accepted
   declare-step ms e a T o =
       let c = passed L (declare ms) e in
-      let q = neither (eqb (length ms) 0 || ltb 16 (length ms)) (any (ltb 4) ms) (c .0) in
+      let q = neither (eqb (length ms) 0 || ltb 16 (length ms)) (anyOf (ltb 4) ms) (c .0) in
       let few = leb-false 16 (length (L .kinds)) (c .1 .0) in
       let short = ltb-false 16 (length ms) (neither (eqb (length ms) 0) (ltb 16 (length ms)) (q .0) .1) in
       let ks = L .kinds ++ (ms ∷ []) in
@@ -129,13 +129,13 @@ unfolding stored inWords inFrames fromObject
 stored-none L r h = omega (
   arith,
   sum-nothing (fromObject (livesIn L) (homeIn L) (L .kinds) r) (λ o. rw (words o) (pick-same (livesIn L (o .home) && not (eqb (o .home) r)) 0)) (L .objects),
-  sum-nothing (sum (into (homeIn L) r)) (sum-nothing (into (homeIn L) r) none) (take (L .counted) (L .frames)),
+  sum-nothing (sumOf (into (homeIn L) r)) (sum-nothing (into (homeIn L) r) none) (take (L .counted) (L .frames)),
 )
   where
     none : (p : ℕ) → into (homeIn L) r p ≡ 0
     none p = rw (ne-eqb (homeIn L p) r (h p))
 
-    words : (o : Object) → sum₂ (freeInto (homeIn L) r) (marks (L .kinds) (o .kind)) (o .words) ≡ 0
+    words : (o : Object) → sumOf₂ (freeInto (homeIn L) r) (marks (L .kinds) (o .kind)) (o .words) ≡ 0
     words o = sum₂-nothing (freeInto (homeIn L) r) (λ k p. rw (none p) (pick-same (eqb k 1) 0)) (marks (L .kinds) (o .kind)) (o .words)
 
 -- the region that comes, with the next name
@@ -149,7 +149,7 @@ more L u l = L .regions ++ (added L u l ∷ [])
 module _ (L : Model) (sp : List ℕ) (g : Regions) (v : Valid L) (a : RegionsAgree L sp g) (sh : RegionsShaped g) (i u l t : ℕ)
     (i-in : i < 64) (i-free : nameAt g i ≡ 0) (hu : Named L u) (ht : t ≡ tagFor g u) where
   past : (r : ℕ) → livesIn L r ≡ true → r ≢ g .given + 1
-  past r q e = omega (arith, live-all (λ x. x ≤ L .given) (L .regions) r (v .names .past) (omega arith) q, a .given)
+  past r q e = omega (arith, live-all (λ x. x ≤ L .given) (L .regions) r (v .names .namesGiven) (omega arith) q, a .given)
 
   entry-same : (r : ℕ) → livesIn L r ≡ true → entryOf (withRegion g i t l) r ≡ entryOf g r
   entry-same r q = entry-old g i t l (omega (arith, sh .names .0)) i-free r (live-named a r q) (past r q)
@@ -184,7 +184,7 @@ module _ (L : Model) (sp : List ℕ) (g : Regions) (v : Valid L) (a : RegionsAgr
   region-last : region (more L u l) (L .given + 1) ≡ added L u l
   region-last = rw (find-append (called (L .given + 1)) noRegion (L .regions) (added L u l ∷ []), new-dead, eq-eqb (L .given + 1) (L .given + 1) refl)
 
-  region-rows : (f : ℕ → ℕ) → sum (λ j. pick (eqb (nameAt (withRegion g i t l) j) 0) 0 (f (nameAt (withRegion g i t l) j))) (upTo 64) ≡ sum (λ r. f (r .name)) (more L u l)
+  region-rows : (f : ℕ → ℕ) → sumOf (λ j. pick (eqb (nameAt (withRegion g i t l) j) 0) 0 (f (nameAt (withRegion g i t l) j))) (upTo 64) ≡ sumOf (λ r. f (r .name)) (more L u l)
   region-rows f =
       let c = sum-change (row (withRegion g i t l)) (row g) 64 i i-in (λ j h d. ap at (name-old g i t l (omega (arith, sh .names .0)) i-free j d)) in
       let n : row (withRegion g i t l) i ≡ f (L .given + 1) = ap at (name-new g i t l (omega (arith, sh .names .0)) i-free) ∙ rw (a .given, ne-eqb (L .given + 1) 0 (λ e. omega arith)) in
@@ -264,7 +264,7 @@ module _ (L : Model) (sp : List ℕ) (g : Regions) (v : Valid L) (a : RegionsAgr
       go j (inr (r, q, o)) = inr (r, live-more (L .regions) (added L u l) r q, o ∙ sym (tag-same r q))
 
   homes-past : (q : ℕ) → homeIn L q ≢ L .given + 1
-  homes-past q e = omega (arith, all-at (λ o. o .home ≤ L .given) (noObject ∷ L .objects) q noObject (omega arith, all-map (λ o h. h .past) (L .objects) (v .objects)) (omega arith))
+  homes-past q e = omega (arith, all-at (λ o. o .home ≤ L .given) (noObject ∷ L .objects) q noObject (omega arith, all-map (λ o h. h .homeGiven) (L .objects) (v .objects)) (omega arith))
 
   pub objects-more : (ids : ℕ → List ℕ) (p : Pages) (heap : List ℕ) → PagesAgree L g p (length heap) → ObjectsAgree L sp ids g p heap → ObjectsAgree (addRegion L u l) sp ids (withRegion g i t l) p heap
   unfolding addRegion
@@ -276,10 +276,10 @@ module _ (L : Model) (sp : List ℕ) (g : Regions) (v : Valid L) (a : RegionsAgr
     within = λ q k. o .within q (back q k);
     full = o .full;
     tiled = λ j h n. tiles-kept L (addRegion L u l) sp sp (λ q k. (live-more (L .regions) (added L u l) (homeIn L q) k, refl, refl)) (64 * j) (64 * j + getD (p .taken) j 0) (ids j) (o .tiled j h n);
-    once = λ r q f. by-live (λ n. sum (λ j. pick (eqb (ownerAt p j) (tagOf (withRegion g i t l) n)) (sum f (ids j)) 0) (upTo (p .made)) ≡ sum (λ x. pick (eqb (homeIn L x) n) (f x) 0) (idsIn L)) r q
+    once = λ r q f. by-live (λ n. sumOf (λ j. pick (eqb (ownerAt p j) (tagOf (withRegion g i t l) n)) (sumOf f (ids j)) 0) (upTo (p .made)) ≡ sumOf (λ x. pick (eqb (homeIn L x) n) (f x) 0) (idsIn L)) r q
         (λ k. rw (tag-same r k) (o .once r k f))
         (rw tag-last (
-        sum-below (λ j. pick (eqb (ownerAt p j) (i + 1)) (sum f (ids j)) 0) (λ j. 0) (p .made) (λ j h. rw (unowned p (length heap) b j h))
+        sum-below (λ j. pick (eqb (ownerAt p j) (i + 1)) (sumOf f (ids j)) 0) (λ j. 0) (p .made) (λ j h. rw (unowned p (length heap) b j h))
         ∙ sum-nothing (λ j. 0) (λ j. refl) (upTo (p .made))
         ∙ sym (sum-nothing (λ x. pick (eqb (homeIn L x) (L .given + 1)) (f x) 0) (λ x. rw (ne-eqb (homeIn L x) (L .given + 1) (homes-past x))) (idsIn L))));
   }

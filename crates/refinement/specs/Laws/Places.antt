@@ -11,7 +11,7 @@ use lib.Dec.{eqb, leb}
 use lib.ListN.{length, getD, replicate, length-append, length-replicate, getD-replicate, List·getD-append, List·getD-eq-default}
 use lib.Seq.{sets, length-sets, getD-append-seam}
 use borrow.Author.Tests.{eq-eqb, ne-eqb, leb-true, leb-false}
-use Rattle.lists.specs.Lists.{pick, sum, from, upTo}
+use Rattle.lists.specs.Lists.{pick, sumOf, from, upTo}
 use Rattle.lists.specs.Laws.Tests.{both, pick-same, by-test, by-same}
 use Rattle.lists.specs.Laws.All.{all₂-in}
 use Rattle.lists.specs.Laws.Sums.{sum-append, sum-same}
@@ -28,7 +28,7 @@ use Rattle.regions.specs.Regions.{tagOf}
 use Rattle.pages.specs.declared.Pages.{Pages}
 use Rattle.pages.specs.Pages.{ownerAt, ownerOf, withTaken}
 use Rattle.pages.specs.Laws.Taken.{owner-is, owner-here, owner-else, taken-here, taken-else}
-use Rattle.refinement.specs.Represents.{spot, image, Alive, wordsIn, idsIn, RegionsAgree, Laid, Tiles, ObjectsAgree}
+use Rattle.refinement.specs.Represents.{spot, imageOf, Alive, wordsIn, idsIn, RegionsAgree, Laid, Tiles, ObjectsAgree}
 use Rattle.refinement.specs.Laws.Tags.{zero-dead, tag-some, tag-same}
 use Rattle.refinement.specs.Laws.Reads.{by-known}
 use Rattle.refinement.specs.Laws.Kept.{tiles-kept}
@@ -158,7 +158,7 @@ module _ (L : Model) (sp : List ℕ) (ids : ℕ → List ℕ) (g : Regions) (p :
       go (inr h) = rw (spot-old q (h .0), object-old q (h .0)) (old q (h .0) (h .1))
 
   -- a word that is fine has the image it had
-  image-old : (h m x : ℕ) → fine (livesIn L) (parentIn L) (homeIn L) h m x ≡ true → image sp₂ m x ≡ image sp m x
+  image-old : (h m x : ℕ) → fine (livesIn L) (parentIn L) (homeIn L) h m x ≡ true → imageOf sp₂ m x ≡ imageOf sp m x
   image-old h m x f = go (eqb m 0) f
     where
       go : (b : Bool) → (b || (known (livesIn L) (homeIn L) x && allowed (parentIn L) (homeIn L) h m x)) ≡ true → pick b x (spot sp₂ x) ≡ pick b x (spot sp x)
@@ -180,11 +180,11 @@ module _ (L : Model) (sp : List ℕ) (ids : ℕ → List ℕ) (g : Regions) (p :
       m : Laid heap sp (marks (L .kinds) ((object (L .objects) q) .kind)) q (object (L .objects) q)
       m = oa .laid q l
 
-      same : (i : ℕ) → i < length (wordsIn L q) → image sp₂ (getD (marks (L .kinds) ((object (L .objects) q) .kind)) i 0) (getD (wordsIn L q) i 0) ≡ image sp (getD (marks (L .kinds) ((object (L .objects) q) .kind)) i 0) (getD (wordsIn L q) i 0)
+      same : (i : ℕ) → i < length (wordsIn L q) → imageOf sp₂ (getD (marks (L .kinds) ((object (L .objects) q) .kind)) i 0) (getD (wordsIn L q) i 0) ≡ imageOf sp (getD (marks (L .kinds) ((object (L .objects) q) .kind)) i 0) (getD (wordsIn L q) i 0)
       same i b =
           let w = object-valid L v q l in
           image-old ((object (L .objects) q) .home) (getD (marks (L .kinds) ((object (L .objects) q) .kind)) i 0) (getD (wordsIn L q) i 0)
-          (all₂-in _ (marks (L .kinds) ((object (L .objects) q) .kind)) (wordsIn L q) i 0 0 (w .marked l) (omega (arith, w .sized)) b)
+          (all₂-in _ (marks (L .kinds) ((object (L .objects) q) .kind)) (wordsIn L q) i 0 0 (w .fineWords l) (omega (arith, w .sized)) b)
 
       out : (spot sp q + length (wordsIn L q) < a) ⊎ (a + n < spot sp q) → (i : ℕ) → spot sp q ≤ i + 1 → i < spot sp q + length (wordsIn L q) → getD heap₂ i 0 ≡ getD heap i 0
       out (inl h) i b c = heap-out i (inl (omega arith))
@@ -206,7 +206,7 @@ module _ (L : Model) (sp : List ℕ) (ids : ℕ → List ℕ) (g : Regions) (p :
     words = λ i h. rw spot-new (word i (rw length-replicate at h));
   }
     where
-      word : (i : ℕ) → i < n → getD heap₂ (a + i) 0 ≡ image sp₂ (getD (marks (L .kinds) k) i 0) (getD (replicate n 0) i 0)
+      word : (i : ℕ) → i < n → getD heap₂ (a + i) 0 ≡ imageOf sp₂ (getD (marks (L .kinds) k) i 0) (getD (replicate n 0) i 0)
       word i h =
           let e : 64 * j + t + suc i ≡ a + i = omega arith in
           rw (getD-replicate {A = ℕ} n i 0 0 h, pick-same {A = ℕ} (eqb (getD (marks (L .kinds) k) i 0) 0) 0)
@@ -280,14 +280,14 @@ module _ (L : Model) (sp : List ℕ) (ids : ℕ → List ℕ) (g : Regions) (p :
 
   -- whatever is added up over the pages of a region q and over its objects: the new object comes in on both sides
   once₂ : (q : ℕ) → livesIn L q ≡ true → (f : ℕ → ℕ)
-      → sum (λ i. pick (eqb (ownerAt p₂ i) (tagOf g q)) (sum f (joins ids j (base ++ (newId L ∷ [])) i)) 0) (upTo (p .made)) ≡ sum (λ x. pick (eqb (homeOf (os₂ L r k) x) q) (f x) 0) (from 1 (length (os₂ L r k)))
+      → sumOf (λ i. pick (eqb (ownerAt p₂ i) (tagOf g q)) (sumOf f (joins ids j (base ++ (newId L ∷ [])) i)) 0) (upTo (p .made)) ≡ sumOf (λ x. pick (eqb (homeOf (os₂ L r k) x) q) (f x) 0) (from 1 (length (os₂ L r k)))
   once₂ q l f =
       step _ _ _ _ _ _ _ _ _ (sum-change (on p₂ (joins ids j (base ++ (newId L ∷ [])))) (on p ids) (p .made) j jm (λ i b e. rw (owner-else p j (tagOf g r) (t + size L k) i e, ne-eqb i j e)))
       (rw (owner-here p j (tagOf g r) (t + size L k) jo, eq-eqb j j refl, tag-same ra r q lr l, sum-append f base (newId L ∷ [])) (here page))
-      (oa .once q l f) (ap (λ m. sum of₂ (from 1 m)) (length-append (L .objects) (newObject L r k ∷ []) ∙ add-one (length (L .objects))) ∙ sum-from-suc of₂ 1 (length (L .objects))) olds last
+      (oa .once q l f) (ap (λ m. sumOf of₂ (from 1 m)) (length-append (L .objects) (newObject L r k ∷ []) ∙ add-one (length (L .objects))) ∙ sum-from-suc of₂ 1 (length (L .objects))) olds last
     where
       on : Pages → (ℕ → List ℕ) → ℕ → ℕ
-      on p ids i = pick (eqb (ownerAt p i) (tagOf g q)) (sum f (ids i)) 0
+      on p ids i = pick (eqb (ownerAt p i) (tagOf g q)) (sumOf f (ids i)) 0
 
       of₂ : ℕ → ℕ
       of₂ x = pick (eqb (homeOf (os₂ L r k) x) q) (f x) 0
@@ -299,11 +299,11 @@ module _ (L : Model) (sp : List ℕ) (ids : ℕ → List ℕ) (g : Regions) (p :
       plus true x y = omega arith
       plus false x y = refl
 
-      here : Onto g p ids r j t base → pick (eqb r q) (sum f base + (f (newId L) + 0)) 0 ≡ pick (eqb (ownerAt p j) (tagOf g q)) (sum f (ids j)) 0 + pick (eqb r q) (f (newId L)) 0
-      here (inl b) = rw (b .0, b .2, tag-same ra r q lr l) (plus (eqb r q) (sum f (ids j)) (f (newId L)))
+      here : Onto g p ids r j t base → pick (eqb r q) (sumOf f base + (f (newId L) + 0)) 0 ≡ pick (eqb (ownerAt p j) (tagOf g q)) (sumOf f (ids j)) 0 + pick (eqb r q) (f (newId L)) 0
+      here (inl b) = rw (b .0, b .2, tag-same ra r q lr l) (plus (eqb r q) (sumOf f (ids j)) (f (newId L)))
       here (inr b) = rw (b .0, b .2, ne-eqb 0 (tagOf g q) (λ z. tag-some g q (sym z))) (plus (eqb r q) 0 (f (newId L)) ∙ ap (λ x. x + pick (eqb r q) (f (newId L)) 0) (pick-same (eqb r q) 0))
 
-      olds : sum of₂ (from 1 (length (L .objects))) ≡ sum (λ x. pick (eqb (homeIn L x) q) (f x) 0) (idsIn L)
+      olds : sumOf of₂ (from 1 (length (L .objects))) ≡ sumOf (λ x. pick (eqb (homeIn L x) q) (f x) 0) (idsIn L)
       olds = sum-same of₂ (λ x. pick (eqb (homeIn L x) q) (f x) 0) (idsIn L)
           (all-from (λ x. of₂ x ≡ pick (eqb (homeIn L x) q) (f x) 0) 1 (length (L .objects)) (λ x b c. ap (λ o. pick (eqb (o .home) q) (f x) 0) (object-old x (omega arith))))
 

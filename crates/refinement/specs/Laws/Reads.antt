@@ -12,7 +12,7 @@ use borrow.Author.Tests.{eqb-true, eqb-false, eq-eqb, ne-eqb, leb-true, leb-fals
 use Rattle.lists.specs.Lists.{All}
 use Rattle.lists.specs.Laws.Tests.{by-test, or-right, or-other}
 use Rattle.lists.specs.Laws.All.{all-map, all-at}
-use Rattle.model.specs.Model.{Model, object, marks, livesIn, homeIn, last, top, slot}
+use Rattle.model.specs.Model.{Model, object, marks, livesIn, homeIn, topPlace, top, slot}
 use Rattle.model.specs.Calls.{lacks}
 use Rattle.model.specs.Valid.{Valid}
 use Rattle.model.specs.Laws.Slots.{Known, slot-known, object-valid}
@@ -26,7 +26,7 @@ use Rattle.pages.specs.declared.Pages.{Pages}
 use Rattle.pages.specs.Pages.{pageCount, ownerIn, ownerOf, wrongLength, wrongLengthIn}
 use Rattle.objects.specs.Objects.{kindOf, wordCount, markOf, wordAt}
 use Rattle.outcomes.specs.Store.{Store, slot as storeSlot}
-use Rattle.refinement.specs.Represents.{Represents, FramesAgree, KindsAgree, RegionsAgree, PagesAgree, ObjectsAgree, Alive, spot, image, wordsIn, tagFor}
+use Rattle.refinement.specs.Represents.{Represents, FramesAgree, KindsAgree, RegionsAgree, PagesAgree, ObjectsAgree, Alive, spot, imageOf, wordsIn, tagFor}
 use Rattle.refinement.specs.Laws.Tags.{Named, tag-for, for-name}
 
 -- ---- frames
@@ -45,21 +45,21 @@ module _ {sp : List ℕ} {fs : List (List ℕ)} {m : ℕ} {f : Frames} (a : Fram
   unfolding frameCount
   frame-count h = omega (arith, a .standing)
 
-  pub top-frame : topFrame f ≡ last fs
+  pub top-frame : topFrame f ≡ topPlace fs
   unfolding topFrame
   top-frame = omega (arith, a .standing)
 
   pub beneath-frame : topFrame f - 1 ≡ length fs - 2
   beneath-frame = omega (arith, top-frame)
 
-  pub top-width : length fs ≢ 0 → widthAt f (topFrame f) ≡ length (getD fs (last fs) [])
-  top-width n = rw top-frame (a .widths (last fs) (omega arith))
+  pub top-width : length fs ≢ 0 → widthAt f (topFrame f) ≡ length (getD fs (topPlace fs) [])
+  top-width n = rw top-frame (a .widths (topPlace fs) (omega arith))
 
   pub beneath-width : 2 ≤ length fs → widthAt f (topFrame f - 1) ≡ length (getD fs (length fs - 2) [])
   beneath-width n = rw beneath-frame (a .widths (length fs - 2) (omega arith))
 
-  pub top-slot : (s : ℕ) → s < length (getD fs (last fs) []) → slotAt f (topFrame f) s ≡ spot sp (getD (getD fs (last fs) []) s 0)
-  top-slot s h = rw top-frame (a .slots (last fs) s (frame-in fs (last fs) s h) h)
+  pub top-slot : (s : ℕ) → s < length (getD fs (topPlace fs) []) → slotAt f (topFrame f) s ≡ spot sp (getD (getD fs (topPlace fs) []) s 0)
+  top-slot s h = rw top-frame (a .slots (topPlace fs) s (frame-in fs (topPlace fs) s h) h)
 
   pub beneath-slot : (s : ℕ) → s < length (getD fs (length fs - 2) []) → slotAt f (topFrame f - 1) s ≡ spot sp (getD (getD fs (length fs - 2) []) s 0)
   beneath-slot s h = rw beneath-frame (a .slots (length fs - 2) s (frame-in fs (length fs - 2) s h) h)
@@ -120,7 +120,7 @@ module _ {L : Model} {sp : List ℕ} {ids : ℕ → List ℕ} {g : Regions} {p :
   kind-is q k = by-known L q k (λ e. rw e) (λ l. rw (ne-eqb (spot sp q) 0 (spot-some q l)) (a .laid q l .header))
 
   pub word-is : (q w : ℕ) → Alive L q → w < length (wordsIn L q)
-      → wordAt heap (spot sp q) w ≡ image sp (getD (marks (L .kinds) ((object (L .objects) q) .kind)) w 0) (getD (wordsIn L q) w 0)
+      → wordAt heap (spot sp q) w ≡ imageOf sp (getD (marks (L .kinds) ((object (L .objects) q) .kind)) w 0) (getD (wordsIn L q) w 0)
   unfolding wordAt
   word-is q w l h = a .laid q l .words w h
 
@@ -131,7 +131,7 @@ module _ {L : Model} {sp : List ℕ} {ids : ℕ → List ℕ} {g : Regions} {p :
 
     pub mark-is : Valid L → (q w : ℕ) → Known L q → w < length (wordsIn L q) → markOf k heap (spot sp q) w ≡ getD (marks (L .kinds) ((object (L .objects) q) .kind)) w 0
     unfolding markOf
-    mark-is v q w n h = rw (kind-is q n) (b .marked ((object (L .objects) q) .kind) w (omega (arith, sized-known v q n)))
+    mark-is v q w n h = rw (kind-is q n) (b .marksAgree ((object (L .objects) q) .kind) w (omega (arith, sized-known v q n)))
 
   module _ (b : RegionsAgree L sp g) where
     pub owner-is : (q : ℕ) → Known L q → ownerOf p (spot sp q) ≡ tagFor g (homeIn L q)
@@ -144,7 +144,7 @@ module _ {L : Model} {sp : List ℕ} {ids : ℕ → List ℕ} {g : Regions} {p :
 -- ---- slots of the top frame
 
 pub top-known : {L : Model} → Valid L → (s : ℕ) → Known L (slot L s)
-top-known {L} v s = slot-known L v (last (L .frames)) s
+top-known {L} v s = slot-known L v (topPlace (L .frames)) s
 
 pub slot-is : {L : Model} {sp : List ℕ} {ids : ℕ → List ℕ} {S : Store} → Represents L sp ids S → (s : ℕ) → lacks (top L) s ≡ false → storeSlot S s ≡ spot sp (slot L s)
 unfolding storeSlot

@@ -8,12 +8,12 @@ use native.Mathlib.Omega.{arith}
 use lib.Dec.{eqb, ltb, leb}
 use lib.ListN.{length, drop}
 use borrow.Author.Tests.{eqb-false, ne-eqb, leb-true, leb-false, ltb-false, le-leb, lt-leb, lt-ltb, not-false}
-use Rattle.lists.specs.Lists.{pick, any, every, upTo, times}
+use Rattle.lists.specs.Lists.{pick, anyOf, every, upTo, times}
 use Rattle.lists.specs.Laws.Tests.{by-test, neither, eqb-sym}
 use Rattle.lists.specs.Laws.Finds.{any-sum, any-count, every-same}
 use Rattle.lists.specs.Laws.UpTo.{all-upTo, every-places}
 use Rattle.model.specs.Model.{Model, Call, declare, newRegion, subregion, push, dropFrame, handBack, allocate, first, copy, fetch, clear, load, setPointer, put, get, view, same, about, report, totals, audit, delete}
-use Rattle.model.specs.Model.{region, livesIn, homeIn, parentIn, top, beneath, slot, held, heldMarks, markAt, allowed, inFrames, stored, outside, subregions}
+use Rattle.model.specs.Model.{region, livesIn, homeIn, parentIn, top, beneath, slot, inSlot, slotMarks, markAt, allowed, inFrames, stored, outside, subregions}
 use Rattle.model.specs.Calls.{checks, refusal, lacks, noFrame, oneFrame, null, noWord, dead, size, fits}
 use Rattle.model.specs.Valid.{Valid}
 use Rattle.model.specs.Laws.Slots.{held-lives}
@@ -87,14 +87,14 @@ module _ {L : Model} {sp : List ℕ} {ids : ℕ → List ℕ} {S : Store} (v : V
 
     data-is : (w : ℕ) → noWord L s w ≡ false → isData S s w ≡ eqb (markAt L s w) 0
     unfolding isData
-    data-is w n = rw (slot-is h s k) (ap (λ m. eqb m 0) (mark-is (h .onObjects) (h .onKinds) v (slot L s) w (top-known v s) (leb-false (length ((held L s) .words)) w n)))
+    data-is w n = rw (slot-is h s k) (ap (λ m. eqb m 0) (mark-is (h .onObjects) (h .onKinds) v (slot L s) w (top-known v s) (leb-false (length ((inSlot L s) .words)) w n)))
 
-    all-data : allData S s ≡ every (eqb 0) (heldMarks L s)
+    all-data : allData S s ≡ every (eqb 0) (slotMarks L s)
     unfolding allData onlyData sizeOf kindMark
     all-data =
-        rw (slot-is h s k, kind-is (h .onObjects) (slot L s) (top-known v s), h .onKinds .sizes ((held L s) .kind))
-        (every-same _ _ (upTo (length (heldMarks L s))) (all-upTo _ (length (heldMarks L s)) (λ w b. rw (h .onKinds .marked ((held L s) .kind) w b) (eqb-sym (markAt L s w) 0)))
-        ∙ every-places (eqb 0) (heldMarks L s) 0)
+        rw (slot-is h s k, kind-is (h .onObjects) (slot L s) (top-known v s), h .onKinds .sizes ((inSlot L s) .kind))
+        (every-same _ _ (upTo (length (slotMarks L s))) (all-upTo _ (length (slotMarks L s)) (λ w b. rw (h .onKinds .marksAgree ((inSlot L s) .kind) w b) (eqb-sym (markAt L s w) 0)))
+        ∙ every-places (eqb 0) (slotMarks L s) 0)
 
   pub parent-is : (q : ℕ) → livesIn L (homeIn L q) ≡ true → nameOf (regions S) (parentAt (regions S) (ownerOf (pages S) (spot sp q) - 1)) ≡ parentIn L (homeIn L q)
   unfolding tagOf
@@ -103,13 +103,13 @@ module _ {L : Model} {sp : List ℕ} {ids : ℕ → List ℕ} {S : Store} (v : V
       rw e (parent-name (h .onRegions) v (homeIn L q) l)
 
   breaks-is : (s w t : ℕ) → lacks (top L) s ≡ false → lacks (top L) t ≡ false → null L s ≡ false → noWord L s w ≡ false
-      → breaks S (storeSlot S s) w (storeSlot S t) ≡ not (allowed (parentIn L) (homeIn L) ((held L s) .home) (markAt L s w) (slot L t))
+      → breaks S (storeSlot S s) w (storeSlot S t) ≡ not (allowed (parentIn L) (homeIn L) ((inSlot L s) .home) (markAt L s w) (slot L t))
   unfolding breaks allowed breaksIn nameOf parentAt
   breaks-is s w t k m n o = rw (
     slot-is h s k,
     slot-is h t m,
     spot-zero (h .onObjects) (slot L t) (top-known v t),
-    mark-is (h .onObjects) (h .onKinds) v (slot L s) w (top-known v s) (leb-false (length ((held L s) .words)) w o),
+    mark-is (h .onObjects) (h .onKinds) v (slot L s) w (top-known v s) (leb-false (length ((inSlot L s) .words)) w o),
     owner-name (h .onObjects) (h .onRegions) (slot L t) (top-known v t),
     owner-name (h .onObjects) (h .onRegions) (slot L s) (top-known v s),
     parent-is (slot L s) (held-lives L v s n),
@@ -138,7 +138,7 @@ module _ {L : Model} {sp : List ℕ} {ids : ℕ → List ℕ} {S : Store} (v : V
   look-is r l =
       let t = tagOf (regions S) r in
       let fs = uncountedIn ((frames S) .standing) ((frames S) .counted) in
-      ap (λ f. any f fs) (fun-ext (λ i. any-count (λ x. eqb x t) (slotTargets S i)))
+      ap (λ f. anyOf f fs) (fun-ext (λ i. any-count (λ x. eqb x t) (slotTargets S i)))
       ∙ any-sum (λ i. times t (slotTargets S i)) fs
       ∙ ap (ltb 0) (slots-beyond S v (h .onFrames) (h .onRegions) (h .onObjects) r l)
 
@@ -175,7 +175,7 @@ module _ {L : Model} {sp : List ℕ} {ids : ℕ → List ℕ} {S : Store} (v : V
 
   pub refusals-agree : (c : Call) → storeRefusal S c ≡ refusal L c
   unfolding storeRefusal storeChecks refusal checks wrongMarks
-  refusals-agree (declare ms) = rw right (ap (λ n. pick (eqb (length ms) 0 || ltb 16 (length ms) || any (ltb 4) ms) 11 n) (end _ (leb 16 (length (L .kinds))) 10 (ap (leb 16) (h .onKinds .declared))))
+  refusals-agree (declare ms) = rw right (ap (λ n. pick (eqb (length ms) 0 || ltb 16 (length ms) || anyOf (ltb 4) ms) 11 n) (end _ (leb 16 (length (L .kinds))) 10 (ap (leb 16) (h .onKinds .declared))))
   refusals-agree newRegion = rw right regions-4-5
   refusals-agree (subregion r) = rw right (step _ (dead L r) 2 _ _ (dead-is r)
       (λ l. step _ (leb 16 ((region (L .regions) r) .level)) 20 _ _ (ap (leb 16) (h .onRegions .entry r (not-false (livesIn L r) l) .level)) (λ n. regions-4-5)))
@@ -194,10 +194,10 @@ module _ {L : Model} {sp : List ℕ} {ids : ℕ → List ℕ} {S : Store} (v : V
   refusals-agree (clear s) = rw right (slot-6-9 s (λ k. refl))
   refusals-agree (load s w t) = rw right (slots-6-9 s t (λ k m. word-14-15 s w k (λ n o. end _ (eqb (markAt L s w) 0) 16 (data-is s k w o))))
   refusals-agree (setPointer s w t) = rw right (slots-6-9 s t (λ k m. word-14-15 s w k (λ n o. step _ (eqb (markAt L s w) 0) 16 _ _ (data-is s k w o) (λ d.
-      end _ (not (allowed (parentIn L) (homeIn L) ((held L s) .home) (markAt L s w) (slot L t))) 17 (breaks-is s w t k m n o)))))
+      end _ (not (allowed (parentIn L) (homeIn L) ((inSlot L s) .home) (markAt L s w) (slot L t))) 17 (breaks-is s w t k m n o)))))
   refusals-agree (put s w x) = get-agrees s w
   refusals-agree (get s w) = get-agrees s w
-  refusals-agree (view s) = rw right (slot-6-9 s (λ k. step _ (null L s) 14 _ _ (null-is s k) (λ n. end _ (not (every (eqb 0) (heldMarks L s))) 16 (ap not (all-data s k)))))
+  refusals-agree (view s) = rw right (slot-6-9 s (λ k. step _ (null L s) 14 _ _ (null-is s k) (λ n. end _ (not (every (eqb 0) (slotMarks L s))) 16 (ap not (all-data s k)))))
   refusals-agree (same s t) = rw right (slots-6-9 s t (λ k m. refl))
   refusals-agree (about s) = rw right (slot-6-9 s (λ k. refl))
   refusals-agree (report r) = rw right (end _ (dead L r) 2 (dead-is r))

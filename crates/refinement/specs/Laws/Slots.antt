@@ -15,7 +15,7 @@ use Rattle.lists.specs.Lists.{every, All}
 use Rattle.lists.specs.Laws.Tests.{neither, by-same, eqb-sym}
 use Rattle.lists.specs.Laws.All.{all-in}
 use Rattle.lists.specs.Laws.Finds.{every-true}
-use Rattle.model.specs.Model.{Model, Answer, region, livesIn, last, top, beneath, slot, held, heldMarks, markAt, gives, four, first, copy, fetch, clear, load, get, view, same, about, totals}
+use Rattle.model.specs.Model.{Model, Answer, region, livesIn, topPlace, top, beneath, slot, inSlot, slotMarks, markAt, gives, four, first, copy, fetch, clear, load, get, view, same, about, totals}
 use Rattle.model.specs.Calls.{checks, refusal, reply, accepted, fillSlot, lacks, null, noWord}
 use Rattle.model.specs.Valid.{Valid}
 use Rattle.model.specs.Laws.Passed.{passed}
@@ -28,7 +28,7 @@ use Rattle.objects.specs.Objects.{wordAt, wordCount}
 use Rattle.outcomes.specs.Store.{Store, frames, kinds, regions, slot as storeSlot}
 use Rattle.outcomes.specs.Shape.{Shaped}
 use Rattle.outcomes.specs.Outcome.{Accepted, fillSlot as storeFill}
-use Rattle.refinement.specs.Represents.{spot, image, FramesAgree, Represents}
+use Rattle.refinement.specs.Represents.{spot, imageOf, FramesAgree, Represents}
 use Rattle.refinement.specs.Laws.Tags.{live-count}
 use Rattle.refinement.specs.Laws.Reads.{frame-in, frame-small, top-frame, top-known, slot-is, beneath-slot, sized-known, spot-same, word-is, size-is, kind-is, owner-name}
 use Rattle.refinement.specs.Laws.Kept.{framed}
@@ -36,7 +36,7 @@ use Rattle.refinement.specs.Laws.Kept.{framed}
 -- ---- a slot is filled
 
 fill-frames : (sp : List ℕ) (fs : List (List ℕ)) (m : ℕ) (f : Frames) (s p : ℕ) → length (f .slots) ≡ 256 → length fs ≤ 32 → All (λ x. (1 ≤ length x) × (length x ≤ 8)) fs
-    → s < length (getD fs (last fs) []) → FramesAgree sp fs m f → FramesAgree sp (set fs (last fs) (set (getD fs (last fs) []) s p)) m (putSlot f (topFrame f) s (spot sp p))
+    → s < length (getD fs (topPlace fs) []) → FramesAgree sp fs m f → FramesAgree sp (set fs (topPlace fs) (set (getD fs (topPlace fs) []) s p)) m (putSlot f (topFrame f) s (spot sp p))
 unfolding putSlot widthAt slotAt
 fill-frames sp fs m f s p room few sized k h = record {
   standing = h .standing ∙ sym (simp length-set);
@@ -46,7 +46,7 @@ fill-frames sp fs m f s p room few sized k h = record {
 }
   where
     t : ℕ
-    t = last fs
+    t = topPlace fs
 
     new : List ℕ
     new = set (getD fs t []) s p
@@ -89,20 +89,20 @@ module _ (L : Model) (sp : List ℕ) (ids : ℕ → List ℕ) (S : Store) (v : V
 
   -- what word w of the object in slot s holds, as its mark says
   pub word-at : (s w : ℕ) → lacks (top L) s ≡ false → null L s ≡ false → noWord L s w ≡ false
-      → wordAt (S .heap) (storeSlot S s) w ≡ image sp (markAt L s w) (getD ((held L s) .words) w 0)
-  word-at s w k n o = rw (slot-is h s k) (word-is (h .onObjects) (slot L s) w (held-lives L v s n) (leb-false (length ((held L s) .words)) w o))
+      → wordAt (S .heap) (storeSlot S s) w ≡ imageOf sp (markAt L s w) (getD ((inSlot L s) .words) w 0)
+  word-at s w k n o = rw (slot-is h s k) (word-is (h .onObjects) (slot L s) w (held-lives L v s n) (leb-false (length ((inSlot L s) .words)) w o))
 
   -- the part of the heap that has all words of the object in slot s, where they are data
-  words-at : (s : ℕ) → lacks (top L) s ≡ false → null L s ≡ false → every (eqb 0) (heldMarks L s) ≡ true
-      → take (wordCount (kinds S) (S .heap) (storeSlot S s)) (drop (storeSlot S s) (S .heap)) ≡ (held L s) .words
+  words-at : (s : ℕ) → lacks (top L) s ≡ false → null L s ≡ false → every (eqb 0) (slotMarks L s) ≡ true
+      → take (wordCount (kinds S) (S .heap) (storeSlot S s)) (drop (storeSlot S s) (S .heap)) ≡ (inSlot L s) .words
   words-at s k n d =
       let p = spot sp (slot L s) in
-      let ws = (held L s) .words in
+      let ws = (inSlot L s) .words in
       let o = h .onObjects .laid (slot L s) (held-lives L v s n) in
       let len : length (take (length ws) (drop p (S .heap))) ≡ length ws = simp (length-take, length-drop) (omega (arith, o .inside)) in
       rw (slot-is h s k, size-is (h .onObjects) (h .onKinds) v (slot L s) (top-known v s)) (ext-getD 0 (take (length ws) (drop p (S .heap))) ws len (λ i b.
       let c : i < length ws = omega arith in
-      let z = all-in (λ m. eqb 0 m ≡ true) (heldMarks L s) i 0 (every-true (eqb 0) (heldMarks L s) d) (omega (arith, sized-known v (slot L s) (top-known v s))) in
+      let z = all-in (λ m. eqb 0 m ≡ true) (slotMarks L s) i 0 (every-true (eqb 0) (slotMarks L s) d) (omega (arith, sized-known v (slot L s) (top-known v s))) in
       getD-take (length ws) (drop p (S .heap)) i 0 c ∙ getD-drop p (S .heap) i 0 ∙ o .words i c ∙ rw (eqb-sym (markAt L s i) 0 ∙ z)))
 
   module _ (a : Answer) (T : Store) where
@@ -139,7 +139,7 @@ module _ (L : Model) (sp : List ℕ) (ids : ℕ → List ℕ) (S : Store) (v : V
       load-step s w t e x =
           let c = passed L (load s w t) e in
           let q = neither (lacks (top L) s) (lacks (top L) t) (c .1 .0) in
-          filled t (getD ((held L s) .words) w 0) _ (q .1) (word-at s w (q .0) (c .1 .1 .0) (c .1 .1 .1 .0) ∙ rw (c .1 .1 .1 .1 .0)) x
+          filled t (getD ((inSlot L s) .words) w 0) _ (q .1) (word-at s w (q .0) (c .1 .1 .0) (c .1 .1 .1 .0) ∙ rw (c .1 .1 .1 .1 .0)) x
 
     -- ---- calls that read
 
@@ -153,7 +153,7 @@ module _ (L : Model) (sp : List ℕ) (ids : ℕ → List ℕ) (S : Store) (v : V
     unfolding checks Accepted reply accepted
     view-step s e x =
         let c = passed L (view s) e in
-        (x .0 ∙ ap (λ p. record { refusal = 0; values = four []; part = p }) (words-at s (c .1 .0) (c .1 .1 .0) (not-false (every (eqb 0) (heldMarks L s)) (c .1 .1 .1 .0))), rw (x .1) h)
+        (x .0 ∙ ap (λ p. record { refusal = 0; values = four []; part = p }) (words-at s (c .1 .0) (c .1 .1 .0) (not-false (every (eqb 0) (slotMarks L s)) (c .1 .1 .1 .0))), rw (x .1) h)
 
     pub same-step : (s t : ℕ) → refusal L (same s t) ≡ 0 → Accepted (same s t) S a T → (a ≡ reply L (same s t)) × Represents (accepted L (same s t)) sp ids T
     unfolding checks Accepted reply accepted

@@ -13,7 +13,7 @@ use borrow.Author.Tests.{ltb-true, ltb-false, leb-true, leb-false, le-leb}
 use Rattle.lists.specs.Lists.{pick, times, All}
 use Rattle.lists.specs.Laws.Tests.{by-test, neither, by-same}
 use Rattle.lists.specs.Laws.Sets.{getD-sets-in, getD-sets-out}
-use Rattle.model.specs.Model.{Model, Answer, livesIn, homeIn, last, top, beneath, slot, inFrames, stored, gives, push, dropFrame, handBack}
+use Rattle.model.specs.Model.{Model, Answer, livesIn, homeIn, topPlace, top, beneath, slot, inFrames, stored, gives, push, dropFrame, handBack}
 use Rattle.model.specs.Calls.{checks, refusal, reply, accepted, lacks, popFrame}
 use Rattle.model.specs.Valid.{Valid}
 use Rattle.model.specs.Laws.Passed.{passed}
@@ -78,40 +78,40 @@ push-frames sp fs m f n z few small sized h = record {
 pub mark-falls : (n m : ℕ) → m ≤ n → pick (ltb 0 n && leb n m) (m - 1) m ≡ pick (leb n m) (m - 1) m
 mark-falls n m low = by-test (ltb 0 n) (λ e. rw e) (λ e. let z = ltb-false 0 n e in rw (e, le-leb n m (omega arith)) (omega arith))
 
-uncounts-is : {sp : List ℕ} {fs : List (List ℕ)} {m : ℕ} {f : Frames} → FramesAgree sp fs m f → uncounts f ≡ (ltb 0 (last fs) && leb (last fs) m)
+uncounts-is : {sp : List ℕ} {fs : List (List ℕ)} {m : ℕ} {f : Frames} → FramesAgree sp fs m f → uncounts f ≡ (ltb 0 (topPlace fs) && leb (topPlace fs) m)
 unfolding uncounts uncountsIn topFrame
 uncounts-is h = rw (top-frame h, h .counted)
 
-pop-frames : (sp : List ℕ) (fs : List (List ℕ)) (m : ℕ) (f : Frames) → m ≤ last fs → FramesAgree sp fs m f
-    → FramesAgree sp (take (last fs) fs) (pick (leb (last fs) m) (m - 1) m) (popped f)
+pop-frames : (sp : List ℕ) (fs : List (List ℕ)) (m : ℕ) (f : Frames) → m ≤ topPlace fs → FramesAgree sp fs m f
+    → FramesAgree sp (take (topPlace fs) fs) (pick (leb (topPlace fs) m) (m - 1) m) (popped f)
 unfolding popped uncounts widthAt slotAt
 pop-frames sp fs m f low h = record {
   standing = simp length-take (omega (arith, top-frame h));
-  counted = rw (uncounts-is h, h .counted) (mark-falls (last fs) m low);
-  widths = λ i k. rw (getD-take (last fs) fs i [] (below i k)) (h .widths i (stands i k));
-  slots = λ i s k l. rw (getD-take (last fs) fs i [] (below i k)) (h .slots i s (stands i k) (rw (getD-take (last fs) fs i [] (below i k)) at l));
+  counted = rw (uncounts-is h, h .counted) (mark-falls (topPlace fs) m low);
+  widths = λ i k. rw (getD-take (topPlace fs) fs i [] (below i k)) (h .widths i (stands i k));
+  slots = λ i s k l. rw (getD-take (topPlace fs) fs i [] (below i k)) (h .slots i s (stands i k) (rw (getD-take (topPlace fs) fs i [] (below i k)) at l));
 }
   where
-    below : (i : ℕ) → i < length (take (last fs) fs) → i < last fs
+    below : (i : ℕ) → i < length (take (topPlace fs) fs) → i < topPlace fs
     below i k = omega (arith, simp length-take at k)
 
-    stands : (i : ℕ) → i < length (take (last fs) fs) → i < length fs
+    stands : (i : ℕ) → i < length (take (topPlace fs) fs) → i < length fs
     stands i k = omega (arith, below i k)
 
 module _ (L : Model) (sp : List ℕ) (ids : ℕ → List ℕ) (S : Store) (v : Valid L) (h : Represents L sp ids S) where
   -- the slots that leave the count of a live region r
   slots-out : (r : ℕ) → livesIn L r ≡ true → times (tagOf (regions S) r) (pick (uncounts (frames S)) (slotTargets S (topFrame (frames S) - 1)) []) ≡ inFrames (homeIn L) r (uncounted L)
   unfolding inFrames
-  slots-out r l = rw (uncounts-is (h .onFrames), beneath-frame (h .onFrames)) (go (ltb 0 (last (L .frames))) refl (leb (last (L .frames)) (L .counted)) refl)
+  slots-out r l = rw (uncounts-is (h .onFrames), beneath-frame (h .onFrames)) (go (ltb 0 (topPlace (L .frames))) refl (leb (topPlace (L .frames)) (L .counted)) refl)
     where
-      go : (a : Bool) → ltb 0 (last (L .frames)) ≡ a → (b : Bool) → leb (last (L .frames)) (L .counted) ≡ b
+      go : (a : Bool) → ltb 0 (topPlace (L .frames)) ≡ a → (b : Bool) → leb (topPlace (L .frames)) (L .counted) ≡ b
           → times (tagOf (regions S) r) (pick (a && b) (slotTargets S (length (L .frames) - 2)) []) ≡ inFrames (homeIn L) r (uncounted L)
       go true e true d =
-          let k = ltb-true 0 (last (L .frames)) e in
-          let m : L .counted ≡ suc (length (L .frames) - 2) = omega (arith, leb-true (last (L .frames)) (L .counted) d, v .frames .mark) in
+          let k = ltb-true 0 (topPlace (L .frames)) e in
+          let m : L .counted ≡ suc (length (L .frames) - 2) = omega (arith, leb-true (topPlace (L .frames)) (L .counted) d, v .frames .mark) in
           rw (top-uncounted L (length (L .frames) - 2) (omega arith) m) (slots-into S v (h .onFrames) (h .onRegions) (h .onObjects) r l (length (L .frames) - 2) (omega arith) ∙ omega arith)
-      go true e false d = rw (none-uncounted L (leb-false (last (L .frames)) (L .counted) d))
-      go false e b d = rw (zero-uncounted L (omega (arith, v .frames .mark, ltb-false 0 (last (L .frames)) e)))
+      go true e false d = rw (none-uncounted L (leb-false (topPlace (L .frames)) (L .counted) d))
+      go false e b d = rw (zero-uncounted L (omega (arith, v .frames .mark, ltb-false 0 (topPlace (L .frames)) e)))
 
   pub popped-represents : ((r : ℕ) → stored L r ≤ 16640) → Represents (popFrame L) sp ids (storePop S)
   unfolding popFrame storePop recounted
@@ -148,8 +148,8 @@ module _ (L : Model) (sp : List ℕ) (ids : ℕ → List ℕ) (S : Store) (v : V
       let t = passed L (handBack s b) e in
       let two = ltb-false (length (L .frames)) 2 (t .0) in
       let q = neither (lacks (top L) s) (lacks (beneath L) b) (t .1 .0) in
-      let d : length (take (last (L .frames)) (L .frames)) - 1 ≡ length (L .frames) - 2 = simp length-take (omega arith) in
-      let u : top (popFrame L) ≡ beneath L = rw (d, getD-take (last (L .frames)) (L .frames) (length (L .frames) - 2) [] (omega arith)) in
+      let d : length (take (topPlace (L .frames)) (L .frames)) - 1 ≡ length (L .frames) - 2 = simp length-take (omega arith) in
+      let u : top (popFrame L) ≡ beneath L = rw (d, getD-take (topPlace (L .frames)) (L .frames) (length (L .frames) - 2) [] (omega arith)) in
       let k : b < length (top (popFrame L)) = rw u (leb-false (length (beneath L)) b (q .1)) in (
         x .0 ∙ ap (λ k. gives (k ∷ [])) (top-frame (h .onFrames)),
         rw (x .1, slot-is h s (q .0)) (fill-represents (popFrame L) sp ids (storePop S) (pop-valid L v) (popped-represents L sp ids S v h small) (z .inFrames .slots .0) b (slot L s) k),

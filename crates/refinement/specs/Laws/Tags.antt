@@ -9,7 +9,7 @@ use native.Mathlib.Omega.{arith}
 use lib.Dec.{eqb, ltb}
 use lib.ListN.{length}
 use borrow.Author.Tests.{eqb-true, eqb-false, eq-eqb, ne-eqb, lt-ltb}
-use Rattle.lists.specs.Lists.{bit, pick, any, sum, count, upTo}
+use Rattle.lists.specs.Lists.{bit, pick, anyOf, sumOf, countOf, upTo}
 use Rattle.lists.specs.Laws.Tests.{by-test, by-same}
 use Rattle.lists.specs.Laws.All.{all-map}
 use Rattle.lists.specs.Laws.Sums.{sum-same, sum-ones, sum-pick}
@@ -42,19 +42,19 @@ module _ {L : Model} {sp : List ℕ} {g : Regions} (a : RegionsAgree L sp g) whe
   -- ---- names
 
   -- as many entries have a name as regions
-  entries-named : (r : ℕ) → r ≢ 0 → count (holds g r) (upTo 64) ≡ count (called r) (L .regions)
-  entries-named r n = ap (λ f. sum f (upTo 64)) (fun-ext (λ i. go i (eqb (nameAt g i) 0) refl)) ∙ a .rows (λ x. bit (eqb x r))
+  entries-named : (r : ℕ) → r ≢ 0 → countOf (holds g r) (upTo 64) ≡ countOf (called r) (L .regions)
+  entries-named r n = ap (λ f. sumOf f (upTo 64)) (fun-ext (λ i. go i (eqb (nameAt g i) 0) refl)) ∙ a .rows (λ x. bit (eqb x r))
     where
       go : (i : ℕ) (b : Bool) → eqb (nameAt g i) 0 ≡ b → bit (eqb (nameAt g i) r) ≡ pick b 0 (bit (eqb (nameAt g i) r))
       go i true e = rw (eqb-true (nameAt g i) 0 e, ne-eqb 0 r (λ q. n (sym q)))
       go i false e = refl
 
-  some-entry : (r : ℕ) → r ≢ 0 → any (holds g r) (upTo 64) ≡ livesIn L r
+  some-entry : (r : ℕ) → r ≢ 0 → anyOf (holds g r) (upTo 64) ≡ livesIn L r
   some-entry r n = any-count (holds g r) (upTo 64) ∙ ap (ltb 0) (entries-named r n) ∙ sym (any-count (called r) (L .regions))
 
   -- no live region has the name 0
   pub zero-dead : livesIn L 0 ≡ false
-  zero-dead = any-count (called 0) (L .regions) ∙ ap (ltb 0) (sym (a .rows (λ x. bit (eqb x 0))) ∙ ap (λ f. sum f (upTo 64)) (fun-ext (λ i. go (eqb (nameAt g i) 0))) ∙ sum-pick false (λ i. 0) (upTo 64))
+  zero-dead = any-count (called 0) (L .regions) ∙ ap (ltb 0) (sym (a .rows (λ x. bit (eqb x 0))) ∙ ap (λ f. sumOf f (upTo 64)) (fun-ext (λ i. go (eqb (nameAt g i) 0))) ∙ sum-pick false (λ i. 0) (upTo 64))
     where
       go : (b : Bool) → pick b 0 (bit b) ≡ 0
       go true = refl
@@ -110,7 +110,7 @@ module _ {L : Model} {sp : List ℕ} {g : Regions} (a : RegionsAgree L sp g) whe
 
   pub live-count : liveCount g ≡ length (L .regions)
   unfolding liveCount liveIn nameAt
-  live-count = ap (λ f. sum f (upTo 64)) (fun-ext (λ i. go (eqb (nameAt g i) 0))) ∙ a .rows (λ x. 1) ∙ sum-ones (L .regions)
+  live-count = ap (λ f. sumOf f (upTo 64)) (fun-ext (λ i. go (eqb (nameAt g i) 0))) ∙ a .rows (λ x. 1) ∙ sum-ones (L .regions)
     where
       go : (b : Bool) → bit (not b) ≡ pick b 0 1
       go true = refl

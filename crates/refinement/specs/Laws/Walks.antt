@@ -1,4 +1,4 @@
--- The walk over a held page of the store meets just the model's objects on that page, and reads their words marked 1.
+-- The walk over a held page of the store meets just the model's objects on that page, and reads their words some-mark 1.
 -- Assumes nothing.
 use mathlib.Core.Path.{_≡_, refl, sym, ap₂, _∙_}
 use mathlib.Core.Logic.{_≢_}
@@ -9,7 +9,7 @@ use native.Mathlib.Omega.{arith}
 use lib.Dec.{eqb, ltb, leb}
 use lib.ListN.{length, getD}
 use borrow.Author.Tests.{lt-ltb, le-leb, lt-leb, eqb-true, ne-eqb}
-use Rattle.lists.specs.Lists.{pick, sum, sum₂, keep, All, joined, upTo}
+use Rattle.lists.specs.Lists.{pick, sumOf, sumOf₂, keep, All, joined, upTo}
 use Rattle.lists.specs.Laws.Tests.{by-test}
 use Rattle.lists.specs.Laws.All.{all-map, all-in}
 use Rattle.lists.specs.Laws.Sums.{sum-map, sum-keep, sum-joined, sum-same}
@@ -24,7 +24,7 @@ use Rattle.pages.specs.Pages.{ownerAt, ownerIn, ownerOf, takenAt}
 use Rattle.objects.specs.Objects.{walk, headersTo, headersOn, freeWords, freeWordsOn}
 use Rattle.regions.specs.declared.Regions.{Regions}
 use Rattle.regions.specs.Regions.{tagOf}
-use Rattle.refinement.specs.Represents.{spot, image, Alive, wordsIn, KindsAgree, Laid, Tiles, ObjectsAgree}
+use Rattle.refinement.specs.Represents.{spot, imageOf, Alive, wordsIn, KindsAgree, Laid, Tiles, ObjectsAgree}
 
 -- the marks of object p
 abbrev pub marksIn : Model → ℕ → List ℕ
@@ -37,11 +37,11 @@ Sized L = (p : ℕ) → Alive L p → (1 ≤ length (wordsIn L p)) × (length (w
 pub all-sized : (L : Model) → Valid L → Sized L
 all-sized L v p l =
     let o = object-valid L v p l in
-    (omega (arith, o .sized, marked ((object (L .objects) p) .kind) (o .kind)), o .sized)
+    (omega (arith, o .sized, some-mark ((object (L .objects) p) .kind) (o .kind)), o .sized)
   where
-    marked : (k : ℕ) → (1 ≤ k) × (k ≤ length (L .kinds)) → 1 ≤ length (marks (L .kinds) k)
-    marked zero h = absurd (omega arith)
-    marked (suc k) h = all-in (λ ms. (1 ≤ length ms) × (length ms ≤ 16)) (L .kinds) k [] (v .kinds .sized) (h .1) .0
+    some-mark : (k : ℕ) → (1 ≤ k) × (k ≤ length (L .kinds)) → 1 ≤ length (marks (L .kinds) k)
+    some-mark zero h = absurd (omega arith)
+    some-mark (suc k) h = all-in (λ ms. (1 ≤ length ms) × (length ms ≤ 16)) (L .kinds) k [] (v .kinds .sized) (h .1) .0
 
 -- an object of the list takes at least two words of the page
 tiles-long : (L : Model) (sp : List ℕ) → Sized L → (a e : ℕ) (ps : List ℕ) → Tiles L sp a e ps → a + 2 * length ps ≤ e
@@ -71,8 +71,8 @@ module _ (L : Model) (sp : List ℕ) (k : Kinds) (heap : List ℕ) (sized : Size
       rw (size-at a p (t .0) (t .1), lt-ltb 0 s (sized p (t .1) .0), le-leb (a + 1 + s) e (omega (arith, tiles-long L sp sized (a + 1 + s) e ps (t .2))))
       (ap₂ _∷_ b (walk-tiles n (a + 1 + s) e ps (omega arith) (t .2)))
 
-  -- the words marked 1 of one object hold the pointers of the objects that the model's words lead to
-  pub free-words : (f : ℕ → ℕ) (p : ℕ) → Alive L p → sum f (freeWords k heap (spot sp p - 1)) ≡ sum₂ (λ m x. pick (eqb m 1) (f (spot sp x)) 0) (marksIn L p) (wordsIn L p)
+  -- the words some-mark 1 of one object hold the pointers of the objects that the model's words lead to
+  pub free-words : (f : ℕ → ℕ) (p : ℕ) → Alive L p → sumOf f (freeWords k heap (spot sp p - 1)) ≡ sumOf₂ (λ m x. pick (eqb m 1) (f (spot sp x)) 0) (marksIn L p) (wordsIn L p)
   unfolding freeWords
   free-words f p l =
       let ms = marksIn L p in
@@ -82,7 +82,7 @@ module _ (L : Model) (sp : List ℕ) (k : Kinds) (heap : List ℕ) (sized : Size
       rw (laid p l .header, kinds .sizes _) (sum-map f at (keep free (upTo (length ms))) ∙ sum-keep (λ w. f (at w)) free (upTo (length ms))
       ∙ sum-below _ _ (length ms) each ∙ sum₂-places c ms (wordsIn L p) 0 0 (sized p l .1))
     where
-      one : (m x : ℕ) → pick (eqb m 1) (f (image sp m x)) 0 ≡ pick (eqb m 1) (f (spot sp x)) 0
+      one : (m x : ℕ) → pick (eqb m 1) (f (imageOf sp m x)) 0 ≡ pick (eqb m 1) (f (spot sp x)) 0
       one m x = by-test (eqb m 1) (λ e. rw (eqb-true m 1 e)) (λ e. rw e)
 
       each : (w : ℕ) → w < length (marksIn L p) → pick (eqb (markAt k ((object (L .objects) p) .kind) w) 1) (f (getD heap (spot sp p - 1 + 1 + w) 0)) 0
@@ -90,13 +90,13 @@ module _ (L : Model) (sp : List ℕ) (k : Kinds) (heap : List ℕ) (sized : Size
       each w h =
           let o = laid p l in
           let e : spot sp p - 1 + 1 ≡ spot sp p = omega (arith, o .placed) in
-          rw (kinds .marked ((object (L .objects) p) .kind) w h, e, o .words w (omega (arith, sized p l .1))) (one (getD (marksIn L p) w 0) (getD (wordsIn L p) w 0))
+          rw (kinds .marksAgree ((object (L .objects) p) .kind) w h, e, o .words w (omega (arith, sized p l .1))) (one (getD (marksIn L p) w 0) (getD (wordsIn L p) w 0))
 
   free-joined : (f : ℕ → ℕ) (ps : List ℕ) → All (Alive L) ps
-      → sum f (joined (freeWords k heap) (map (λ p. spot sp p - 1) ps)) ≡ sum (λ p. sum₂ (λ m x. pick (eqb m 1) (f (spot sp x)) 0) (marksIn L p) (wordsIn L p)) ps
+      → sumOf f (joined (freeWords k heap) (map (λ p. spot sp p - 1) ps)) ≡ sumOf (λ p. sumOf₂ (λ m x. pick (eqb m 1) (f (spot sp x)) 0) (marksIn L p) (wordsIn L p)) ps
   free-joined f ps h =
       let at : ℕ → ℕ = λ p. spot sp p - 1 in
-      sum-joined f (freeWords k heap) (map at ps) ∙ sum-map (λ h. sum f (freeWords k heap h)) at ps ∙ sum-same _ _ ps (all-map (free-words f) ps h)
+      sum-joined f (freeWords k heap) (map at ps) ∙ sum-map (λ h. sumOf f (freeWords k heap h)) at ps ∙ sum-same _ _ ps (all-map (free-words f) ps h)
 
 tiles-alive : (L : Model) (sp : List ℕ) (a e : ℕ) (ps : List ℕ) → Tiles L sp a e ps → All (Alive L) ps
 tiles-alive L sp a e [] t = tt
@@ -115,8 +115,8 @@ module _ (L : Model) (sp : List ℕ) (ids : ℕ → List ℕ) (g : Regions) (k :
       rw e (walk-tiles L sp k heap (all-sized L v) kinds (objects .laid) 64 (64 * j) (64 * j + getD (p .taken) j 0) (ids j)
       (omega (arith, objects .full j made held, tiles-long L sp (all-sized L v) (64 * j) (64 * j + getD (p .taken) j 0) (ids j) t)) t)
 
-  -- whatever is added up over the words marked 1 on the page comes to the same over the model's words marked 1
-  pub free-words-on : (f : ℕ → ℕ) → sum f (freeWordsOn k heap p j) ≡ sum (λ q. sum₂ (λ m x. pick (eqb m 1) (f (spot sp x)) 0) (marksIn L q) (wordsIn L q)) (ids j)
+  -- whatever is added up over the words some-mark 1 on the page comes to the same over the model's words some-mark 1
+  pub free-words-on : (f : ℕ → ℕ) → sumOf f (freeWordsOn k heap p j) ≡ sumOf (λ q. sumOf₂ (λ m x. pick (eqb m 1) (f (spot sp x)) 0) (marksIn L q) (wordsIn L q)) (ids j)
   unfolding freeWordsOn headersOn
   free-words-on f = rw headers-on (free-joined L sp k heap (all-sized L v) kinds (objects .laid) f (ids j) (tiles-alive L sp _ _ (ids j) (objects .tiled j made held)))
 

@@ -12,7 +12,7 @@ use lib.Seq.{getD-set-same, getD-set-other}
 use borrow.Author.Tests.{eqb-true, eqb-false, leb-false, not-false}
 use Rattle.lists.specs.Lists.{bit, pick, times}
 use Rattle.lists.specs.Laws.Tests.{neither, by-same, pick-same, eqb-sym}
-use Rattle.model.specs.Model.{Model, Object, Answer, noObject, object, marks, livesIn, homeIn, top, slot, held, heldMarks, markAt, stored, put, setPointer}
+use Rattle.model.specs.Model.{Model, Object, Answer, noObject, object, marks, livesIn, homeIn, top, slot, inSlot, slotMarks, markAt, stored, put, setPointer}
 use Rattle.model.specs.Calls.{checks, refusal, reply, accepted, lacks, null, replaced, withWord, writeWord}
 use Rattle.model.specs.Valid.{Valid}
 use Rattle.model.specs.Laws.Regions.{homes-kept}
@@ -27,7 +27,7 @@ use Rattle.pages.specs.Pages.{ownerOf}
 use Rattle.objects.specs.Objects.{wordAt}
 use Rattle.outcomes.specs.Store.{Store, regions, pages}
 use Rattle.outcomes.specs.Outcome.{Accepted, withRegions, recounted, countedIn, pointed, writeWord as storeWrite}
-use Rattle.refinement.specs.Represents.{spot, image, Alive, wordsIn, Laid, Represents}
+use Rattle.refinement.specs.Represents.{spot, imageOf, Alive, wordsIn, Laid, Represents}
 use Rattle.refinement.specs.Laws.Reads.{top-known, slot-is, word-is, mark-is}
 use Rattle.refinement.specs.Laws.Counts.{count-is, word-known, leads-into}
 use Rattle.refinement.specs.Laws.Kept.{same-entry, same-tag, regions-kept, pages-kept, tiles-kept}
@@ -61,37 +61,37 @@ laid-kept heap sp ms q o i x a l = record {
 
 -- its word w
 laid-set : (heap sp ms : List ℕ) (q : ℕ) (o : Object) (w x : ℕ) → w < length (o .words) → Laid heap sp ms q o
-    → Laid (set heap (spot sp q + w) (image sp (getD ms w 0) x)) sp ms q (withWord o w x)
+    → Laid (set heap (spot sp q + w) (imageOf sp (getD ms w 0) x)) sp ms q (withWord o w x)
 laid-set heap sp ms q o w x h l = record {
   placed = l .placed;
   inside = simp length-set (l .inside);
-  header = rw (getD-set-other heap (spot sp q + w) (spot sp q - 1) (image sp (getD ms w 0) x) 0 (λ e. omega (arith, l .placed))) (l .header);
+  header = rw (getD-set-other heap (spot sp q + w) (spot sp q - 1) (imageOf sp (getD ms w 0) x) 0 (λ e. omega (arith, l .placed))) (l .header);
   words = λ j k. go j (rw length-set at k) (by-same j w);
 }
   where
     go : (j : ℕ) → j < length (o .words) → (j ≡ w) ⊎ (j ≢ w)
-        → getD (set heap (spot sp q + w) (image sp (getD ms w 0) x)) (spot sp q + j) 0 ≡ image sp (getD ms j 0) (getD (set (o .words) w x) j 0)
-    go j k (inl e) = rw (e, getD-set-same heap (spot sp q + w) (image sp (getD ms w 0) x) 0 (omega (arith, l .inside)), getD-set-same (o .words) w x 0 h)
-    go j k (inr n) = rw (getD-set-other heap (spot sp q + w) (spot sp q + j) (image sp (getD ms w 0) x) 0 (λ e. n (omega arith)), getD-set-other (o .words) w j x 0 n) (l .words j k)
+        → getD (set heap (spot sp q + w) (imageOf sp (getD ms w 0) x)) (spot sp q + j) 0 ≡ imageOf sp (getD ms j 0) (getD (set (o .words) w x) j 0)
+    go j k (inl e) = rw (e, getD-set-same heap (spot sp q + w) (imageOf sp (getD ms w 0) x) 0 (omega (arith, l .inside)), getD-set-same (o .words) w x 0 h)
+    go j k (inr n) = rw (getD-set-other heap (spot sp q + w) (spot sp q + j) (imageOf sp (getD ms w 0) x) 0 (λ e. n (omega arith)), getD-set-other (o .words) w j x 0 n) (l .words j k)
 
-module _ (L : Model) (sp : List ℕ) (ids : ℕ → List ℕ) (S : Store) (v : Valid L) (h : Represents L sp ids S) (s w x : ℕ) (n : null L s ≡ false) (k : w < length ((held L s) .words)) where
+module _ (L : Model) (sp : List ℕ) (ids : ℕ → List ℕ) (S : Store) (v : Valid L) (h : Represents L sp ids S) (s w x : ℕ) (n : null L s ≡ false) (k : w < length ((inSlot L s) .words)) where
   os₂ : List Object
-  os₂ = replaced (L .objects) (slot L s) (withWord (held L s) w x)
+  os₂ = replaced (L .objects) (slot L s) (withWord (inSlot L s) w x)
 
   here : Alive L (slot L s)
   here = held-lives L v s n
 
   -- the object q afterwards: the one written, or as it was
-  object-either : (P : ℕ → Object → Type 0) → P (slot L s) (withWord (held L s) w x) → ((q : ℕ) → q ≢ slot L s → P q (object (L .objects) q)) → (q : ℕ) → P q (object os₂ q)
+  object-either : (P : ℕ → Object → Type 0) → P (slot L s) (withWord (inSlot L s) w x) → ((q : ℕ) → q ≢ slot L s → P q (object (L .objects) q)) → (q : ℕ) → P q (object os₂ q)
   unfolding os₂
   object-either P a b q = go (by-same q (slot L s))
     where
-      go : (q ≡ slot L s) ⊎ (q ≢ slot L s) → P q (object (replaced (L .objects) (slot L s) (withWord (held L s) w x)) q)
-      go (inl e) = rw (e, object-same (L .objects) (slot L s) (withWord (held L s) w x) (eqb-false (slot L s) 0 n) (in-list L v (slot L s) here)) a
-      go (inr e) = rw (object-other (L .objects) (slot L s) (withWord (held L s) w x) q e) (b q e)
+      go : (q ≡ slot L s) ⊎ (q ≢ slot L s) → P q (object (replaced (L .objects) (slot L s) (withWord (inSlot L s) w x)) q)
+      go (inl e) = rw (e, object-same (L .objects) (slot L s) (withWord (inSlot L s) w x) (eqb-false (slot L s) 0 n) (in-list L v (slot L s) here)) a
+      go (inr e) = rw (object-other (L .objects) (slot L s) (withWord (inSlot L s) w x) q e) (b q e)
 
   size-kept : (q : ℕ) → length ((object os₂ q) .words) ≡ length (wordsIn L q)
-  size-kept = object-either (λ q o. length (o .words) ≡ length (wordsIn L q)) (length-set ((held L s) .words) w x) (λ q e. refl)
+  size-kept = object-either (λ q o. length (o .words) ≡ length (wordsIn L q)) (length-set ((inSlot L s) .words) w x) (λ q e. refl)
 
   alive-was : (q : ℕ) → Alive (writeWord L s w x) q → Alive L q
   unfolding writeWord
@@ -102,13 +102,13 @@ module _ (L : Model) (sp : List ℕ) (ids : ℕ → List ℕ) (S : Store) (v : V
   alive-is q l = rw (homes-kept (L .objects) (slot L s) w x) l
 
   -- the word written is no header, and no word of another object
-  away : (q : ℕ) → (spot sp (slot L s) + length ((held L s) .words) < spot sp q) ⊎ (spot sp q + length (wordsIn L q) < spot sp (slot L s))
+  away : (q : ℕ) → (spot sp (slot L s) + length ((inSlot L s) .words) < spot sp q) ⊎ (spot sp q + length (wordsIn L q) < spot sp (slot L s))
       → (spot sp q - 1 ≢ spot sp (slot L s) + w) × ((j : ℕ) → j < length (wordsIn L q) → spot sp q + j ≢ spot sp (slot L s) + w)
   away q (inl a) = ((λ e. omega arith), (λ j b e. omega arith))
   away q (inr a) = ((λ e. omega arith), (λ j b e. omega arith))
 
   written : (g : Regions) → Beside (regions S) g → ((r : ℕ) → livesIn L r ≡ true → countAt g (entryOf (regions S) r) ≡ stored (writeWord L s w x) r)
-      → Represents (writeWord L s w x) sp ids (storeWrite (withRegions S g) (spot sp (slot L s)) w (image sp (markAt L s w) x))
+      → Represents (writeWord L s w x) sp ids (storeWrite (withRegions S g) (spot sp (slot L s)) w (imageOf sp (markAt L s w) x))
   unfolding writeWord storeWrite os₂
   written g b counts =
       let o = h .onObjects in
@@ -118,17 +118,17 @@ module _ (L : Model) (sp : List ℕ) (ids : ℕ → List ℕ) (S : Store) (v : V
         onRegions = regions-kept L (L .kinds) (L .frames) (L .counted) os₂ b sp (h .onRegions);
         onPages = rw length-set (pages-kept L (L .kinds) (L .frames) (L .counted) os₂ b (pages S) (length (S .heap)) (h .onPages));
         onObjects = record {
-          known = o .known ∙ sym (length-replaced (L .objects) (slot L s) (withWord (held L s) w x));
-          laid = λ q l. object-either (λ q p. Alive L q → Laid (set (S .heap) (spot sp (slot L s) + w) (image sp (markAt L s w) x)) sp (marks (L .kinds) (p .kind)) q p)
-              (λ a. laid-set (S .heap) sp (heldMarks L s) (slot L s) (held L s) w x k (o .laid (slot L s) a))
-              (λ q e a. laid-kept (S .heap) sp (marks (L .kinds) ((object (L .objects) q) .kind)) q (object (L .objects) q) (spot sp (slot L s) + w) (image sp (markAt L s w) x)
+          known = o .known ∙ sym (length-replaced (L .objects) (slot L s) (withWord (inSlot L s) w x));
+          laid = λ q l. object-either (λ q p. Alive L q → Laid (set (S .heap) (spot sp (slot L s) + w) (imageOf sp (markAt L s w) x)) sp (marks (L .kinds) (p .kind)) q p)
+              (λ a. laid-set (S .heap) sp (slotMarks L s) (slot L s) (inSlot L s) w x k (o .laid (slot L s) a))
+              (λ q e a. laid-kept (S .heap) sp (marks (L .kinds) ((object (L .objects) q) .kind)) q (object (L .objects) q) (spot sp (slot L s) + w) (imageOf sp (markAt L s w) x)
               (away q (o .apart (slot L s) q here a (λ d. e (sym d)))) (o .laid q a)) q (alive-was q l);
           apart = λ p q a b e. rw (size-kept p, size-kept q) (o .apart p q (alive-was p a) (alive-was q b) e);
           owned = λ q l. o .owned q (alive-was q l) ∙ sym (same-tag b (homeIn L q)) ∙ sym (ap (λ f. tagOf g (f q)) (homes-kept (L .objects) (slot L s) w x));
           within = λ q l. rw (size-kept q) (o .within q (alive-was q l));
           full = o .full;
           tiled = λ j a b. tiles-kept L (writeWord L s w x) sp sp (λ q l. (alive-is q l, refl, size-kept q)) (64 * j) (64 * j + getD ((pages S) .taken) j 0) (ids j) (o .tiled j a b);
-          once = λ r l f. rw (same-tag b r, homes-kept (L .objects) (slot L s) w x, length-replaced (L .objects) (slot L s) (withWord (held L s) w x)) (o .once r l f);
+          once = λ r l f. rw (same-tag b r, homes-kept (L .objects) (slot L s) w x, length-replaced (L .objects) (slot L s) (withWord (inSlot L s) w x)) (o .once r l f);
         };
         counts = λ r l. rw (same-entry b r) (counts r l);
       }
@@ -150,7 +150,7 @@ once-unless b q h r = go b (eqb q r) refl
 
 weighs-most : (L : Model) (s w r x : ℕ) → weighs L s w r x ≤ 1
 unfolding weighs
-weighs-most L s w r x = go (eqb ((held L s) .home) r) (eqb (markAt L s w) 1) (eqb (homeIn L x) r)
+weighs-most L s w r x = go (eqb ((inSlot L s) .home) r) (eqb (markAt L s w) 1) (eqb (homeIn L x) r)
   where
     go : (a b c : Bool) → pick a 0 (pick b (bit c) 0) ≤ 1
     go true b c = omega arith
@@ -165,8 +165,8 @@ module _ (L : Model) (sp : List ℕ) (ids : ℕ → List ℕ) (S : Store) (v : V
   unfolding countedIn weighs
   counted-weighs q k =
       let o = held-lives L v s n in
-      rw (h .onObjects .owned (slot L s) o, leads-into (h .onRegions) (h .onObjects) ((held L s) .home) o q k) (go (eqb (markAt L s w) 1 && not (eqb (homeIn L q) ((held L s) .home))))
-      ∙ once-unless (eqb (markAt L s w) 1) (homeIn L q) ((held L s) .home) r
+      rw (h .onObjects .owned (slot L s) o, leads-into (h .onRegions) (h .onObjects) ((inSlot L s) .home) o q k) (go (eqb (markAt L s w) 1 && not (eqb (homeIn L q) ((inSlot L s) .home))))
+      ∙ once-unless (eqb (markAt L s w) 1) (homeIn L q) ((inSlot L s) .home) r
     where
       go : (b : Bool) → times (tagOf (regions S) r) (pick b (ownerOf (pages S) (spot sp q) ∷ []) []) ≡ pick b (bit (eqb (homeIn L q) r) + 0) 0
       go true = rw (leads-into (h .onRegions) (h .onObjects) r l q k)
@@ -180,10 +180,10 @@ module _ (L : Model) (sp : List ℕ) (ids : ℕ → List ℕ) (S : Store) (v : V
       let c = passed L (setPointer s w t) e in
       let b = neither (lacks (top L) s) (lacks (top L) t) (c .1 .0) in
       let n = c .1 .1 .0 in
-      let k = leb-false (length ((held L s) .words)) w (c .1 .1 .1 .0) in
+      let k = leb-false (length ((inSlot L s) .words)) w (c .1 .1 .1 .0) in
       let m = c .1 .1 .1 .1 .0 in
       let o = held-lives L v s n in
-      let old = getD ((held L s) .words) w 0 in
+      let old = getD ((inSlot L s) .words) w 0 in
       let was : wordAt (S .heap) (spot sp (slot L s)) w ≡ spot sp old = rw m at (word-is (h .onObjects) (slot L s) w o k) in
       let sort = mark-is (h .onObjects) (h .onKinds) v (slot L s) w (top-known v s) k in
       let counted = countedIn S (markAt L s w) (ownerOf (pages S) (spot sp (slot L s))) in (
@@ -201,7 +201,7 @@ module _ (L : Model) (sp : List ℕ) (ids : ℕ → List ℕ) (S : Store) (v : V
   put-step s w x e y =
       let t = passed L (put s w x) e in
       let m = not-false (eqb (markAt L s w) 0) (t .1 .1 .1 .1 .0) in
-      let k = leb-false (length ((held L s) .words)) w (t .1 .1 .1 .0) in (
+      let k = leb-false (length ((inSlot L s) .words)) w (t .1 .1 .1 .0) in (
         y .0,
         rw (y .1, slot-is h s (t .1 .0)) (rw m at (written L sp ids S v h s w x (t .1 .1 .0) k (regions S) (beside-same (regions S)) (λ r l. omega (arith, h .counts r l, accepted-stored L r v (put s w x) e l)))),
       )

@@ -8,7 +8,7 @@ use lib.Dec.{eqb}
 use lib.ListN.{getD}
 use borrow.Author.Needs.{needs}
 use borrow.Author.Tests.{eq-eqb, ne-eqb}
-use Rattle.lists.specs.Lists.{bit, count, upTo}
+use Rattle.lists.specs.Lists.{bit, countOf, upTo}
 use Rattle.lists.specs.Laws.Sums.{count-most}
 use Rattle.lists.specs.Laws.UpTo.{count-next, length-upTo}
 use Rattle.regions.specs.Regions.{subregionsIn}
@@ -19,7 +19,7 @@ abbrev below : List ℕ → List ℕ → ℕ → ℕ → Bool
 below names parents t i = not (eqb (getD names i 0) 0) && eqb (getD parents i 0) t
 
 abbrev Inv-loop : tie.InvT-loop
-Inv-loop names parents t k₀ i₀ k i = (i ≤ 64) × (k ≡ count (below names parents t) (upTo i))
+Inv-loop names parents t k₀ i₀ k i = (i ≤ 64) × (k ≡ countOf (below names parents t) (upTo i))
 
 abbrev μ-loop : tie.MeasureT-loop
 μ-loop names parents t k₀ i₀ k i = 64 - i
@@ -48,7 +48,7 @@ unfolding subregionsIn
 returns c =
     let l = c .before in
     let e : l .loop .i ≡ 64 = omega arith in
-    l .loop .inv .1 ∙ ap (λ n. count (below (l .before .before .before .args .names .now) (l .before .before .before .args .parents .now) (l .before .before .before .args .t)) (upTo n)) e
+    l .loop .inv .1 ∙ ap (λ n. countOf (below (l .before .before .before .args .names .now) (l .before .before .before .args .parents .now) (l .before .before .before .args .t)) (upTo n)) e
 
 pub subregions-of-spec : {M : Type 1} → statement M
 subregions-of-spec =

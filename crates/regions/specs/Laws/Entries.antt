@@ -9,17 +9,17 @@ use native.Mathlib.Omega.{arith}
 use lib.Dec.{eqb}
 use lib.ListN.{length, getD}
 use borrow.Author.Tests.{eqb-true, ne-eqb, lt-ltb}
-use Rattle.lists.specs.Lists.{bit, pick, any, find, count, upTo}
+use Rattle.lists.specs.Lists.{bit, pick, anyOf, findOr, countOf, upTo}
 use Rattle.lists.specs.Laws.Finds.{any-count, all-find}
 use Rattle.lists.specs.Laws.UpTo.{length-upTo, find-found, all-upTo}
 use Rattle.regions.specs.declared.Regions.{Regions}
 use Rattle.regions.specs.Regions.{nameAt, nameOf, entryOf, liveCount, unused, entryIn, liveIn, nameIn, unusedIn}
 
-count-not : (f : ℕ → Bool) (l : List ℕ) → count (λ i. not (f i)) l + count f l ≡ length l
+count-not : (f : ℕ → Bool) (l : List ℕ) → countOf (λ i. not (f i)) l + countOf f l ≡ length l
 count-not f [] = refl
 count-not f (x ∷ xs) = go (f x) (count-not f xs)
   where
-    go : (b : Bool) → count (λ i. not (f i)) xs + count f xs ≡ length xs → bit (not b) + count (λ i. not (f i)) xs + (bit b + count f xs) ≡ suc (length xs)
+    go : (b : Bool) → countOf (λ i. not (f i)) xs + countOf f xs ≡ length xs → bit (not b) + countOf (λ i. not (f i)) xs + (bit b + countOf f xs) ≡ suc (length xs)
     go true e = omega arith
     go false e = omega arith
 
@@ -41,21 +41,21 @@ pub name-of : (r : Regions) (i : ℕ) → nameOf r (i + 1) ≡ nameAt r i
 name-of r i = let e : i + 1 - 1 ≡ i = omega arith in name-some r (i + 1) (λ q. omega arith) ∙ ap (nameAt r) e
 
 -- the entry of a name
-pub entry-find : (r : Regions) (n : ℕ) → n ≢ 0 → entryOf r n ≡ find (λ i. eqb (nameAt r i) n) 64 (upTo 64)
+pub entry-find : (r : Regions) (n : ℕ) → n ≢ 0 → entryOf r n ≡ findOr (λ i. eqb (nameAt r i) n) 64 (upTo 64)
 unfolding entryOf entryIn nameAt
 entry-find r n h = rw (ne-eqb n 0 h)
 
-pub entry-found : (r : Regions) (n : ℕ) → n ≢ 0 → any (λ i. eqb (nameAt r i) n) (upTo 64) ≡ true → (entryOf r n < 64) × (nameAt r (entryOf r n) ≡ n)
+pub entry-found : (r : Regions) (n : ℕ) → n ≢ 0 → anyOf (λ i. eqb (nameAt r i) n) (upTo 64) ≡ true → (entryOf r n < 64) × (nameAt r (entryOf r n) ≡ n)
 entry-found r n h e =
     let f = find-found (λ i. eqb (nameAt r i) n) 64 64 e in
-    rw (entry-find r n h) (f .0, eqb-true (nameAt r (find (λ i. eqb (nameAt r i) n) 64 (upTo 64))) n (f .1))
+    rw (entry-find r n h) (f .0, eqb-true (nameAt r (findOr (λ i. eqb (nameAt r i) n) 64 (upTo 64))) n (f .1))
 
 -- the entries in use and those not in use are all
-pub live-rest : (names : List ℕ) → liveIn names + count (λ i. eqb (getD names i 0) 0) (upTo 64) ≡ 64
+pub live-rest : (names : List ℕ) → liveIn names + countOf (λ i. eqb (getD names i 0) 0) (upTo 64) ≡ 64
 unfolding liveIn
 live-rest names = count-not (λ i. eqb (getD names i 0) 0) (upTo 64) ∙ length-upTo 64
 
-pub live-unused : (r : Regions) → liveCount r + count (λ i. eqb (nameAt r i) 0) (upTo 64) ≡ 64
+pub live-unused : (r : Regions) → liveCount r + countOf (λ i. eqb (nameAt r i) 0) (upTo 64) ≡ 64
 unfolding liveCount nameAt
 live-unused r = live-rest (r .names)
 
@@ -63,8 +63,8 @@ pub unused-found : (r : Regions) → liveCount r < 64 → (unused r < 64) × (na
 unfolding unused unusedIn nameAt
 unused-found r h =
     let none : ℕ → Bool = λ i. eqb (nameAt r i) 0 in
-    let f = find-found none 64 64 (any-count none (upTo 64) ∙ lt-ltb 0 (count none (upTo 64)) (rest (liveCount r) (count none (upTo 64)) (live-unused r) h)) in
-    (f .0, eqb-true (nameAt r (find none 64 (upTo 64))) 0 (f .1))
+    let f = find-found none 64 64 (any-count none (upTo 64) ∙ lt-ltb 0 (countOf none (upTo 64)) (rest (liveCount r) (countOf none (upTo 64)) (live-unused r) h)) in
+    (f .0, eqb-true (nameAt r (findOr none 64 (upTo 64))) 0 (f .1))
   where
     rest : (a b : ℕ) → a + b ≡ 64 → a < 64 → 0 < b
     rest a b e k = omega arith
@@ -74,6 +74,6 @@ pub entry-most : (names : List ℕ) (n : ℕ) → entryIn names n ≤ 64
 unfolding entryIn
 entry-most names n = go (eqb n 0)
   where
-    go : (b : Bool) → pick b 64 (find (λ i. eqb (getD names i 0) n) 64 (upTo 64)) ≤ 64
+    go : (b : Bool) → pick b 64 (findOr (λ i. eqb (getD names i 0) n) 64 (upTo 64)) ≤ 64
     go true = omega arith
     go false = all-find (λ i. i ≤ 64) (λ i. eqb (getD names i 0) n) 64 (upTo 64) (all-upTo (λ i. i ≤ 64) 64 (λ i h. omega arith)) (omega arith)

@@ -4,14 +4,14 @@ use mathlib.Core.List.{_∷_, map}
 use borrow.Author.Needs.{needs}
 use native.Mathlib.Omega.{arith}
 use lib.ListN.{length, drop, length-set}
-use Rattle.script.specs.Script.{words, value, zeros, line, bad, given}
+use Rattle.script.specs.Script.{tokens, value, zeros, line, bad, given}
 use Rattle.script.specs.Laws.Lines.{givenFrom, given-all, given-next, given-none, given-odd, given-full}
 use Rattle.script.proofs.arguments.Statement.{statement}
 use Rattle.script.proofs.arguments.Tie as tie
 
 -- the arguments read so far and the words to come give the whole
 abbrev Inv-loop : tie.InvT-loop
-Inv-loop s at n args₀ k₀ i₀ args k i = (k ≤ 65) × (length args ≡ 64) × (givenFrom n k args (map value (words (drop i s))) ≡ given n (map value (words (drop at s))))
+Inv-loop s at n args₀ k₀ i₀ args k i = (k ≤ 65) × (length args ≡ 64) × (givenFrom n k args (map value (tokens (drop i s))) ≡ given n (map value (tokens (drop at s))))
 
 abbrev μ-loop : tie.MeasureT-loop
 μ-loop s at n args₀ k₀ i₀ args k i = 65 - k
@@ -30,8 +30,8 @@ returns c =
 next : (c : tie.After-number Inv-loop μ-loop)
     → let l = c .before .before .before .before .before in
     let a = l .before .before .args in
-    givenFrom (a .n) (l .loop .k) (l .loop .args) (c .number .result ∷ map value (words (drop (c .before .before .before .word .result .to) (a .s .now))))
-    ≡ given (a .n) (map value (words (drop (a .at) (a .s .now))))
+    givenFrom (a .n) (l .loop .k) (l .loop .args) (c .number .result ∷ map value (tokens (drop (c .before .before .before .word .result .to) (a .s .now))))
+    ≡ given (a .n) (map value (tokens (drop (a .at) (a .s .now))))
 next c =
     rw (c .number .ensures)
     (rw (c .before .before .before .word .ensures .some (c .before .before .if1 .left)) at (c .before .before .before .before .before .loop .inv .2))
@@ -52,7 +52,7 @@ unfolding line bad
 returns-3 c =
     let l = c .before .before in
     let a = l .before .before .args in
-    c .bare2 .ensures ∙ given-full (a .n) (l .loop .k) (l .loop .args) (map value (words (drop (l .loop .i) (a .s .now)))) (omega arith) ∙ l .loop .inv .2
+    c .bare2 .ensures ∙ given-full (a .n) (l .loop .k) (l .loop .args) (map value (tokens (drop (l .loop .i) (a .s .now)))) (omega arith) ∙ l .loop .inv .2
 
 pub arguments-spec : {M : Type 1} → statement M
 arguments-spec =

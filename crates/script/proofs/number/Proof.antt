@@ -3,14 +3,14 @@ use mathlib.Core.Path.{_≡_, sym, _∙_}
 use borrow.Author.Needs.{needs}
 use native.Mathlib.Omega.{arith}
 use lib.ListN.{length, drop}
-use Rattle.script.specs.Script.{none, value}
+use Rattle.script.specs.Script.{noNumber, value}
 use Rattle.script.specs.Laws.Numbers.{valued, value-empty, value-digits, valued-great, valued-end, valued-next, valued-below, valued-above}
 use Rattle.script.proofs.number.Statement.{statement}
 use Rattle.script.proofs.number.Tie as tie
 
 -- the number read so far and the digits to come give the whole
 abbrev Inv-loop : tie.InvT-loop
-Inv-loop w v₀ i₀ v i = (i ≤ length w) × (v < none) × (valued v (drop i w) ≡ value w)
+Inv-loop w v₀ i₀ v i = (i ≤ length w) × (v < noNumber) × (valued v (drop i w) ≡ value w)
 
 abbrev μ-loop : tie.MeasureT-loop
 μ-loop w v₀ i₀ v i = length w - i

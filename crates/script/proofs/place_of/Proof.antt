@@ -5,14 +5,14 @@ use mathlib.Core.List.{_∷_}
 use borrow.Author.Needs.{needs}
 use native.Mathlib.Omega.{arith}
 use lib.ListN.{length, take, drop}
-use Rattle.script.specs.Script.{words, placed}
+use Rattle.script.specs.Script.{tokens, placed}
 use Rattle.script.specs.Laws.Lines.{placed-here, placed-next}
 use Rattle.script.proofs.place_of.Statement.{statement}
 use Rattle.script.proofs.place_of.Tie as tie
 
 -- the words to come, counted from n on, give the whole
 abbrev Inv-loop : tie.InvT-loop
-Inv-loop w s n₀ i₀ n i = (n ≤ i + 1) × (i ≤ length s) × (placed n w (words (drop i s)) ≡ placed 1 w (words s))
+Inv-loop w s n₀ i₀ n i = (n ≤ i + 1) × (i ≤ length s) × (placed n w (tokens (drop i s)) ≡ placed 1 w (tokens s))
 
 abbrev μ-loop : tie.MeasureT-loop
 μ-loop w s n₀ i₀ n i = length s - i
@@ -29,7 +29,7 @@ next : (c : tie.After-same Inv-loop μ-loop)
     → let p = c .before .before .before .word .result in
     let l = c .before .before .before .before in
     let a = l .before .before .before .args in
-    placed (l .loop .n) (a .w .now) (take (p .to - p .from) (drop (p .from) (a .s .now)) ∷ words (drop (p .to) (a .s .now))) ≡ placed 1 (a .w .now) (words (a .s .now))
+    placed (l .loop .n) (a .w .now) (take (p .to - p .from) (drop (p .from) (a .s .now)) ∷ tokens (drop (p .to) (a .s .now))) ≡ placed 1 (a .w .now) (tokens (a .s .now))
 next c = rw (c .before .before .before .word .ensures .some (c .before .before .if1 .left)) at (c .before .before .before .before .loop .inv .2)
 
 returns-2 : tie.Need-returns-2 Inv-loop μ-loop

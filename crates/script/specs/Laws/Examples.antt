@@ -9,7 +9,7 @@ use lib.Dec.{eqb}
 use lib.ListN.{getD, replicate}
 use Rattle.lists.specs.Lists.{every, joined, from, upTo, equal}
 use Rattle.script.specs.declared.Line.{Line}
-use Rattle.script.specs.Script.{bytes, blank, inWord, words, value, names, counts, placed, callOf, allowed, zeros, line, bad, given, said, scanned}
+use Rattle.script.specs.Script.{bytes, blank, inWord, tokens, value, names, counts, placed, callOf, allowed, zeros, line, bad, given, said, scanned}
 
 -- a line, whether a store is made before it, and the call and arguments that it says
 record Row : Type 0 where
@@ -46,7 +46,7 @@ table =
     ∷ record { text = sevens 2 64; made = true; call = 2; args = replicate 64 7 } ∷ record { text = sevens 2 65; made = true; call = 24; args = [] } ∷ []
 
 all-right : every right table ≡ true
-unfolding right table alike says opens sevens bytes blank inWord words value names counts placed callOf allowed zeros line bad given said scanned
+unfolding right table alike says opens sevens bytes blank inWord tokens value names counts placed callOf allowed zeros line bad given said scanned
 all-right = refl
 
 -- each call by its name, with as many arguments as it takes
@@ -54,5 +54,5 @@ byName : ℕ → Row
 byName n = let k = getD counts n 0 in record { text = sevens n k; made = true; call = n; args = replicate k 7 }
 
 names-right : every (λ n. right (byName n)) (from 2 22) ≡ true
-unfolding right byName sevens alike bytes blank inWord words value names counts placed callOf allowed zeros line bad given said scanned
+unfolding right byName sevens alike bytes blank inWord tokens value names counts placed callOf allowed zeros line bad given said scanned
 names-right = refl

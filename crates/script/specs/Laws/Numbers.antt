@@ -12,13 +12,13 @@ use lib.Seq.{drop-cons}
 use borrow.Author.Tests.{le-leb, lt-leb, lt-ltb}
 use Rattle.lists.specs.Lists.{pick, every}
 use Rattle.lists.specs.Laws.Tests.{pick-same}
-use Rattle.script.specs.Script.{digit, decimal, none, value}
+use Rattle.script.specs.Script.{digit, decimal, noNumber, value}
 
 -- the number v with the digits of a list after it
 unfoldable pub valued : ℕ → List ℕ → ℕ
-valued v l = pick (every digit l) (min (decimal v l) none) none
+valued v l = pick (every digit l) (min (decimal v l) noNumber) noNumber
 
-pub value-empty : (w : List ℕ) → length w ≡ 0 → none ≡ value w
+pub value-empty : (w : List ℕ) → length w ≡ 0 → noNumber ≡ value w
 unfolding value
 value-empty w e = rw e
 
@@ -31,13 +31,13 @@ decimal-grows : (v : ℕ) (l : List ℕ) → v ≤ decimal v l
 decimal-grows v [] = omega arith
 decimal-grows v (b ∷ l) = omega (arith, decimal-grows (v * 10 + (b - 48)) l)
 
-pub valued-great : (v : ℕ) (l : List ℕ) → none ≤ v → none ≡ valued v l
+pub valued-great : (v : ℕ) (l : List ℕ) → noNumber ≤ v → noNumber ≡ valued v l
 unfolding valued
 valued-great v l h =
-    let e : min (decimal v l) none ≡ none = omega (arith, decimal-grows v l) in
-    rw e (sym (pick-same (every digit l) none))
+    let e : min (decimal v l) noNumber ≡ noNumber = omega (arith, decimal-grows v l) in
+    rw e (sym (pick-same (every digit l) noNumber))
 
-pub valued-end : (v : ℕ) (w : List ℕ) (i : ℕ) → length w ≤ i → v < none → v ≡ valued v (drop i w)
+pub valued-end : (v : ℕ) (w : List ℕ) (i : ℕ) → length w ≤ i → v < noNumber → v ≡ valued v (drop i w)
 unfolding valued
 valued-end v w i h k = rw (drop-of-length-le w {i = i} h) (omega arith)
 
@@ -46,10 +46,10 @@ module _ (v : ℕ) (w : List ℕ) (i : ℕ) (h : i < length w) where
   unfolding valued
   valued-next a b = rw (add-one i, drop-cons w i 0 h, le-leb 48 (getD w i 0) a, le-leb (getD w i 0) 57 b)
 
-  pub valued-below : getD w i 0 < 48 → none ≡ valued v (drop i w)
+  pub valued-below : getD w i 0 < 48 → noNumber ≡ valued v (drop i w)
   unfolding valued
   valued-below a = rw (drop-cons w i 0 h, lt-leb 48 (getD w i 0) a)
 
-  pub valued-above : 57 < getD w i 0 → none ≡ valued v (drop i w)
+  pub valued-above : 57 < getD w i 0 → noNumber ≡ valued v (drop i w)
   unfolding valued
   valued-above a = rw (drop-cons w i 0 h, lt-leb (getD w i 0) 57 a, and-false (leb 48 (getD w i 0)))

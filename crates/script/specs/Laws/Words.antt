@@ -12,7 +12,7 @@ use lib.Seq.{drop-cons, drop-drop}
 use borrow.Author.Tests.{ne-eqb, not-true}
 use Rattle.lists.specs.Lists.{pick}
 use Rattle.lists.specs.Laws.Tests.{neither}
-use Rattle.script.specs.Script.{blank, inWord, grown, words, front, ofClass}
+use Rattle.script.specs.Script.{blank, inWord, grown, tokens, front, ofClass}
 use Rattle.script.specs.Found.{NextWord, LineAt}
 
 -- ---- the bytes in front that pass a test
@@ -55,31 +55,31 @@ module _ (f : ℕ → Bool) where
 
 -- ---- blanks, and then a word or none
 
-words-skip : (b : ℕ) (l : List ℕ) → blank b ≡ true → words (b ∷ l) ≡ words l
-unfolding words blank
+words-skip : (b : ℕ) (l : List ℕ) → blank b ≡ true → tokens (b ∷ l) ≡ tokens l
+unfolding tokens blank
 words-skip b l e = let h : eqb b 35 ≡ false = ne-eqb b 35 (λ q. false≢true (sym (ap blank q) ∙ e)) in rw (h, e)
 
-words-blanks : (l : List ℕ) → words (drop (length (front blank l)) l) ≡ words l
+words-blanks : (l : List ℕ) → tokens (drop (length (front blank l)) l) ≡ tokens l
 words-blanks [] = refl
 words-blanks (b ∷ l) = go (blank b) refl (words-blanks l)
   where
-    go : (t : Bool) → blank b ≡ t → words (drop (length (front blank l)) l) ≡ words l → words (drop (length (pick t (b ∷ front blank l) [])) (b ∷ l)) ≡ words (b ∷ l)
+    go : (t : Bool) → blank b ≡ t → tokens (drop (length (front blank l)) l) ≡ tokens l → tokens (drop (length (pick t (b ∷ front blank l) [])) (b ∷ l)) ≡ tokens (b ∷ l)
     go true e h = h ∙ sym (words-skip b l e)
     go false e h = refl
 
-words-none : (l : List ℕ) → length (front blank l) ≡ 0 → length (front inWord l) ≡ 0 → words l ≡ []
-unfolding words inWord
+words-none : (l : List ℕ) → length (front blank l) ≡ 0 → length (front inWord l) ≡ 0 → tokens l ≡ []
+unfolding tokens inWord
 words-none [] h k = refl
 words-none (b ∷ l) h k = go (eqb b 35) (blank b) h k
   where
     go : (p q : Bool) → length (pick q (b ∷ front blank l) []) ≡ 0 → length (pick (not (p || q)) (b ∷ front inWord l) []) ≡ 0
-        → pick p [] (pick q (words l) (pick (inWord (getD l 0 32)) (grown b (words l)) ((b ∷ []) ∷ words l))) ≡ []
+        → pick p [] (pick q (tokens l) (pick (inWord (getD l 0 32)) (grown b (tokens l)) ((b ∷ []) ∷ tokens l))) ≡ []
     go true q h k = refl
     go false true h k = absurd (omega arith)
     go false false h k = absurd (omega arith)
 
-words-begin : (b : ℕ) (l : List ℕ) → inWord b ≡ true → words (b ∷ l) ≡ pick (inWord (getD l 0 32)) (grown b (words l)) ((b ∷ []) ∷ words l)
-unfolding words inWord
+words-begin : (b : ℕ) (l : List ℕ) → inWord b ≡ true → tokens (b ∷ l) ≡ pick (inWord (getD l 0 32)) (grown b (tokens l)) ((b ∷ []) ∷ tokens l)
+unfolding tokens inWord
 words-begin b l e = let q = neither (eqb b 35) (blank b) (not-true _ e) in rw (q .0, q .1)
 
 -- a list begins with a word if its first byte does
@@ -92,13 +92,13 @@ begins-not : (l : List ℕ) → inWord (getD l 0 32) ≡ false → front inWord 
 begins-not [] e = refl
 begins-not (b ∷ l) e = rw e
 
-words-word : (l : List ℕ) → 0 < length (front inWord l) → words l ≡ front inWord l ∷ words (drop (length (front inWord l)) l)
+words-word : (l : List ℕ) → 0 < length (front inWord l) → tokens l ≡ front inWord l ∷ tokens (drop (length (front inWord l)) l)
 words-word [] h = absurd (omega arith)
 words-word (b ∷ l) h = go (inWord b) refl (inWord (getD l 0 32)) refl h (words-word l)
   where
     go : (p : Bool) → inWord b ≡ p → (q : Bool) → inWord (getD l 0 32) ≡ q → 0 < length (pick p (b ∷ front inWord l) [])
-        → (0 < length (front inWord l) → words l ≡ front inWord l ∷ words (drop (length (front inWord l)) l))
-        → words (b ∷ l) ≡ pick p (b ∷ front inWord l) [] ∷ words (drop (length (pick p (b ∷ front inWord l) [])) (b ∷ l))
+        → (0 < length (front inWord l) → tokens l ≡ front inWord l ∷ tokens (drop (length (front inWord l)) l))
+        → tokens (b ∷ l) ≡ pick p (b ∷ front inWord l) [] ∷ tokens (drop (length (pick p (b ∷ front inWord l) [])) (b ∷ l))
     go true e true g h ih = words-begin b l e ∙ rw (g, ih (begins l g))
     go true e false g h ih = words-begin b l e ∙ rw (g, begins-not l g)
     go false e q g h ih = absurd (omega arith)
@@ -116,8 +116,8 @@ next-word l at from to e f = record {
   within = omega (arith, front-length inWord (drop from l), length-drop from l);
 }
   where
-    skipped : words (drop at l) ≡ words (drop from l)
-    skipped = sym (words-blanks (drop at l)) ∙ ap words (drop-drop (length (front blank (drop at l))) at l ∙ ap (λ n. drop n l) (sym e))
+    skipped : tokens (drop at l) ≡ tokens (drop from l)
+    skipped = sym (words-blanks (drop at l)) ∙ ap tokens (drop-drop (length (front blank (drop at l))) at l ∙ ap (λ n. drop n l) (sym e))
 
 pub line-none : (l : List ℕ) (at : ℕ) → length l ≤ at → LineAt l at []
 line-none l at h = record { is = rw (drop-of-length-le l {i = at} h); within = omega arith }

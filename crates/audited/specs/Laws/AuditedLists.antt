@@ -7,7 +7,7 @@ use Prim.Native.Nat.{ℕ, suc, _-_, _<_}
 use native.Mathlib.Omega.{arith}
 use lib.ListN.{length, length-map}
 use lib.Seq.{ext-getD}
-use Rattle.lists.specs.Lists.{pick, sum, All}
+use Rattle.lists.specs.Lists.{pick, sumOf, All}
 use Rattle.lists.specs.Laws.Tests.{by-test}
 use Rattle.lists.specs.Laws.All.{all-map}
 use Rattle.lists.specs.Laws.Sums.{sum-map, sum-same}
@@ -21,18 +21,18 @@ use Rattle.outcomes.specs.Store.{Store, frames, regions}
 use Rattle.outcomes.specs.History.{Region, Object, begin, entries, listedKinds, listedFrames, listedRegions}
 use Rattle.outcomes.specs.Laws.Begin.{headers, objectAt, begin-objects}
 use Rattle.outcomes.specs.Laws.Pointers.{kinds-length, marks-length, marks-at, frames-length, width-is}
 use Rattle.refinement.specs.Represents.{spot, idsIn}
 use Rattle.refinement.specs.Laws.Tags.{entry-name, entry-live, entry-own, parent-name}
 use Rattle.refinement.specs.Laws.Reads.{frame-count, kind-count}
-use Rattle.refinement.specs.Laws.RebuildRegions.{used, used-is, entries-by}
-use Rattle.refinement.specs.Laws.Tells.{listed, met, Tells}
-use Rattle.refinement.specs.Laws.AuditedObjects.{Agrees, headers-sum, place-home}
+use Rattle.audited.specs.Laws.RebuildRegions.{used, used-is, entries-by}
+use Rattle.histories.specs.Laws.Tells.{listed, met, Tells}
+use Rattle.audited.specs.Laws.AuditedObjects.{Agrees, headers-sum, place-home}
 
 module _ {L : Model} {sp : List ℕ} {ids : ℕ → List ℕ} (S : Store) (a : Agrees L sp ids S) where
   pub kinds-are : listedKinds S ≡ L .kinds
   kinds-are = ext-getD [] (listedKinds S) (L .kinds) (kinds-length S ∙ kind-count (a .onKinds) (a .valid .kinds .many)) (λ n h.
       let e = sym (marks-length S (suc n)) ∙ a .onKinds .sizes (suc n) in
-      ext-getD 0 (marks (listedKinds S) (suc n)) (marks (L .kinds) (suc n)) e (λ w k. sym (marks-at S (suc n) w k) ∙ a .onKinds .marked (suc n) w (omega (arith, e))))
+      ext-getD 0 (marks (listedKinds S) (suc n)) (marks (L .kinds) (suc n)) e (λ w k. sym (marks-at S (suc n) w k) ∙ a .onKinds .marksAgree (suc n) w (omega (arith, e))))
 
   frames-all : frameCount (frames S) ≡ length (L .frames)
   frames-all = frame-count (a .onFrames) (a .valid .frames .many)
@@ -49,7 +49,7 @@ module _ {L : Model} {sp : List ℕ} {ids : ℕ → List ℕ} (S : Store) (a : A
       let n = used-is (regions S) i e in
       subst P (entry-own (a .onRegions) (a .valid) i b n) (h (nameAt (regions S) i) (entry-live (a .onRegions) i b n)))
 
-  regions-are : (f : Region → ℕ) → sum f (listedRegions S) ≡ sum (λ g. f (listed g)) (L .regions)
+  regions-are : (f : Region → ℕ) → sumOf f (listedRegions S) ≡ sumOf (λ g. f (listed g)) (L .regions)
   unfolding listedRegions
   regions-are f =
       let named : ℕ → ℕ = λ n. f (record { name = n; parent = parentIn L n }) in
@@ -60,9 +60,9 @@ module _ {L : Model} {sp : List ℕ} {ids : ℕ → List ℕ} (S : Store) (a : A
       ∙ a .onRegions .rows named
       ∙ sum-same _ _ (L .regions) (all-map (λ g e. ap (λ x. f (record { name = g .name; parent = x .parent })) e) (L .regions) (found-itself (L .regions) (a .valid .names .distinct)))
 
-  objects-are : (f : Object → ℕ) → sum f ((begin S) .objects) ≡ sum (λ q. pick (livesIn L (homeIn L q)) (f (met L sp q)) 0) (idsIn L)
+  objects-are : (f : Object → ℕ) → sumOf f ((begin S) .objects) ≡ sumOf (λ q. pick (livesIn L (homeIn L q)) (f (met L sp q)) 0) (idsIn L)
   objects-are f =
-      ap (sum f) (begin-objects S) ∙ sum-map f (objectAt S) (headers S) ∙ headers-sum S a (λ x. f (objectAt S x)) ∙ ap (λ k. sum k (idsIn L)) (fun-ext each)
+      ap (sumOf f) (begin-objects S) ∙ sum-map f (objectAt S) (headers S) ∙ headers-sum S a (λ x. f (objectAt S x)) ∙ ap (λ k. sumOf k (idsIn L)) (fun-ext each)
     where
       each : (q : ℕ) → pick (livesIn L (homeIn L q)) (f (objectAt S (spot sp q - 1))) 0 ≡ pick (livesIn L (homeIn L q)) (f (met L sp q)) 0
       each q = by-test (livesIn L (homeIn L q))

@@ -8,7 +8,7 @@ use Prim.Native.Nat.{ℕ, _-_, _/_, _<_}
 use lib.Dec.{eqb}
 use lib.ListN.{length}
 use borrow.Author.Tests.{ne-eqb}
-use Rattle.lists.specs.Lists.{pick, sum, upTo}
+use Rattle.lists.specs.Lists.{pick, sumOf, upTo}
 use Rattle.lists.specs.Laws.Tests.{or-right}
 use Rattle.lists.specs.Laws.Sums.{sum-map, sum-joined}
 use Rattle.lists.specs.Laws.UpTo.{sum-below}
@@ -55,14 +55,14 @@ module _ {L : Model} {sp : List ℕ} {ids : ℕ → List ℕ} (S : Store) (a : A
           rw (ne-eqb (holderOf S j) 0 m, ne-eqb (ownerAt (pages S) j) 0 n) (headers-on L sp ids (regions S) (kinds S) (pages S) (S .heap) (a .valid) (a .onKinds) (a .onObjects) j h n)
 
   -- whatever is added up over the headers met comes to the same over the objects of live regions
-  pub headers-sum : (f : ℕ → ℕ) → sum f (headers S) ≡ sum (λ q. pick (livesIn L (homeIn L q)) (f (spot sp q - 1)) 0) (idsIn L)
+  pub headers-sum : (f : ℕ → ℕ) → sumOf f (headers S) ≡ sumOf (λ q. pick (livesIn L (homeIn L q)) (f (spot sp q - 1)) 0) (idsIn L)
   headers-sum f =
       sum-joined f (headersOf S) (upTo (pageCount (pages S)))
-      ∙ ap (λ n. sum (λ j. sum f (headersOf S j)) (upTo n)) (page-count (a .onPages))
-      ∙ sum-below _ _ ((pages S) .made) (λ j h. ap (sum f) (headers-of j h) ∙ go j (eqb (ownerAt (pages S) j) 0))
+      ∙ ap (λ n. sumOf (λ j. sumOf f (headersOf S j)) (upTo n)) (page-count (a .onPages))
+      ∙ sum-below _ _ ((pages S) .made) (λ j h. ap (sumOf f) (headers-of j h) ∙ go j (eqb (ownerAt (pages S) j) 0))
       ∙ held-objects L sp ids (regions S) (pages S) (S .heap) (a .valid) (a .onRegions) (a .onPages) (a .onObjects) (λ q. f (spot sp q - 1))
     where
-      go : (j : ℕ) (b : Bool) → sum f (pick b [] (map (λ q. spot sp q - 1) (ids j))) ≡ pick b 0 (sum (λ q. f (spot sp q - 1)) (ids j))
+      go : (j : ℕ) (b : Bool) → sumOf f (pick b [] (map (λ q. spot sp q - 1) (ids j))) ≡ pick b 0 (sumOf (λ q. f (spot sp q - 1)) (ids j))
       go j true = refl
       go j false = sum-map f (λ q. spot sp q - 1) (ids j)
 

@@ -5,7 +5,7 @@ use mathlib.Core.List.{List, map}
 use Prim.Native.Nat.{ℕ, zero, suc, _+_, _-_, _/_}
 use lib.Dec.{eqb}
 use lib.ListN.{length, getD}
-use Rattle.lists.specs.Lists.{pick, find, upTo}
+use Rattle.lists.specs.Lists.{pick, findOr, upTo}
 use Rattle.model.specs.Model.{Model, Region, Object}
 use Rattle.frames.specs.Frames.{frameCount, widthAt, slotAt}
 use Rattle.kinds.specs.Kinds.{sizeOf, markAt}
@@ -22,7 +22,7 @@ places S = map (λ q. q + 1) (headers S)
 
 -- the id of pointer v, 0 for null and where it leads to no object
 unfoldable pub idOf : List ℕ → ℕ → ℕ
-idOf sp v = find (λ p. eqb (spot sp p) v) 0 (upTo (suc (length sp)))
+idOf sp v = findOr (λ p. eqb (spot sp p) v) 0 (upTo (suc (length sp)))
 
 -- the ids of the objects on page j
 unfoldable pub idsOn : Store → ℕ → List ℕ

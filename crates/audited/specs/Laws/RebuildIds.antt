@@ -10,7 +10,7 @@ use native.Mathlib.Omega.{arith}
 use lib.Dec.{eqb}
 use lib.ListN.{length, getD, length-map}
 use borrow.Author.Tests.{eqb-true, eq-eqb, ne-eqb}
-use Rattle.lists.specs.Lists.{any}
+use Rattle.lists.specs.Lists.{anyOf}
 use Rattle.lists.specs.Laws.Tests.{by-test, or-right}
 use Rattle.lists.specs.Laws.All.{all-in}
 use Rattle.lists.specs.Laws.Finds.{any-map, any-in, getD-map-in}
@@ -22,11 +22,11 @@ use Rattle.outcomes.specs.Store.{Store, pages}
 use Rattle.outcomes.specs.Shape.{Shaped}
 use Rattle.outcomes.specs.History.{begin, leads, homeOf, at}
 use Rattle.outcomes.specs.Laws.Begin.{holderOf, headers, objectAt, begin-objects, home-is, home-none, leads-null}
 use Rattle.refinement.specs.Represents.{spot, Alive}
-use Rattle.refinement.specs.Rebuild.{places, idOf, readObject, rebuilt}
-use Rattle.refinement.specs.Laws.RebuildWalk.{stacked-apart}
-use Rattle.refinement.specs.Laws.RebuildRegions.{live-name}
-use Rattle.refinement.specs.Laws.RebuildObjects.{wordsAt, headers-stacked, Stands, stands}
+use Rattle.audited.specs.Rebuild.{places, idOf, readObject, rebuilt}
+use Rattle.audited.specs.Laws.RebuildWalk.{stacked-apart}
+use Rattle.audited.specs.Laws.RebuildRegions.{live-name}
+use Rattle.audited.specs.Laws.RebuildObjects.{wordsAt, headers-stacked, Stands, stands}
 
 module _ (S : Store) where
   -- the header of object i, counted from 0
@@ -68,7 +68,7 @@ module _ (S : Store) where
   leads-to : (v : ℕ) → leads (begin S) v ≡ true → (i : ℕ) × (i < length (headers S)) × (v ≡ header i + 1)
   unfolding leads
   leads-to v e =
-      let t = any-index (λ q. eqb (q + 1) v) (headers S) 0 (sym (any-map (at v) (objectAt S) (headers S)) ∙ ap (any (at v)) (sym (begin-objects S)) ∙ e) in
+      let t = any-index (λ q. eqb (q + 1) v) (headers S) 0 (sym (any-map (at v) (objectAt S) (headers S)) ∙ ap (anyOf (at v)) (sym (begin-objects S)) ∙ e) in
       (t .0, t .1, sym (eqb-true (header (t .0) + 1) v (t .2)))
 
   leads-at : (i : ℕ) → i < length (headers S) → leads (begin S) (header i + 1) ≡ true

@@ -8,26 +8,26 @@ use native.Mathlib.Omega.{arith}
 use lib.Dec.{eqb, leb}
 use lib.ListN.{length, getD, take}
 use borrow.Author.Tests.{eqb-true, ne-eqb, not-true}
-use Rattle.lists.specs.Lists.{bit, pick, every, keep, sum, upTo}
+use Rattle.lists.specs.Lists.{bit, pick, every, keep, sumOf, upTo}
 use Rattle.lists.specs.Laws.Tests.{by-test, both, or-right, pick-same}
 use Rattle.lists.specs.Laws.All.{all-map, all-change, all₂-in}
 use Rattle.lists.specs.Laws.Sums.{sum-map, sum-keep}
 use Rattle.lists.specs.Laws.Finds.{true-every, all-keep, getD-map-in}
 use Rattle.lists.specs.Laws.UpTo.{all-upTo, each-every, sum-below, sum-part, sum-places, sum₂-places}
-use Rattle.model.specs.Model.{Model, object, marks, livesIn, homeIn, into, freeInto, rule, allowed, inFrames, fromObject, inWords, words, outside, stored}
+use Rattle.model.specs.Model.{Model, object, marks, livesIn, homeIn, into, freeInto, rule, allowed, inFrames, fromObject, inWords, wordPointers, outside, stored}
 use Rattle.model.specs.Valid.{Valid, known}
 use Rattle.model.specs.Laws.Slots.{Known, slot-known, object-valid}
 use Rattle.frames.specs.Frames.{slotAt}
 use Rattle.outcomes.specs.Store.{Store, frames, regions, pages}
 use Rattle.outcomes.specs.History.{History, Word, slotsOf, pointersOf, leads, homeOf, parentOf, slotsLeadingTo, wordsLeadingTo, uncountedInto, slotsLead, wordsLead}
 use Rattle.outcomes.specs.History as history
 use Rattle.refinement.specs.Represents.{spot, Alive, wordsIn, idsIn, FramesAgree, ObjectsAgree}
 use Rattle.refinement.specs.Laws.Reads.{by-known, spot-zero}
 use Rattle.refinement.specs.Laws.Counts.{word-known}
 use Rattle.refinement.specs.Laws.Walks.{marksIn}
 use Rattle.refinement.specs.Laws.Report.{weight, ids-objects}
 use Rattle.lists.specs.Laws.Kept.{sum-above}
-use Rattle.refinement.specs.Laws.Tells.{met, Tells, frames-length, each-met, parent-is, leads-to, home-is}
+use Rattle.histories.specs.Laws.Tells.{met, Tells, frames-length, each-met, parent-is, leads-to, home-is}
 
 module _ {L : Model} {sp : List ℕ} {ids : ℕ → List ℕ} {h : History} (S : Store) (t : Tells L sp h) (v : Valid L) (onFrames : FramesAgree sp (L .frames) (L .counted) (frames S))
     (onObjects : ObjectsAgree L sp ids (regions S) (pages S) (S .heap)) where
@@ -48,7 +48,7 @@ module _ {L : Model} {sp : List ℕ} {ids : ℕ → List ℕ} {h : History} (S :
       (all-upTo _ (length f) (λ s m. rw (onFrames .slots i s l m) (pointer-leads (getD f s 0) (slot-known L v i s)))))))
 
   module _ (r : ℕ) where
-    slots-into : (i : ℕ) → i < length (L .frames) → slotsLeadingTo h S r i ≡ sum (into (homeIn L) r) (getD (L .frames) i [])
+    slots-into : (i : ℕ) → i < length (L .frames) → slotsLeadingTo h S r i ≡ sumOf (into (homeIn L) r) (getD (L .frames) i [])
     unfolding slotsLeadingTo slotsOf
     slots-into i k =
         let f = getD (L .frames) i [] in
@@ -57,15 +57,15 @@ module _ {L : Model} {sp : List ℕ} {ids : ℕ → List ℕ} {h : History} (S :
         ∙ sum-below _ (λ s. into (homeIn L) r (getD f s 0)) (length f) (λ s m. ap (λ x. bit (eqb x r)) (ap (homeOf h) (onFrames .slots i s k m) ∙ home-is t v onObjects (getD f s 0) (slot-known L v i s)))
         ∙ sum-places (into (homeIn L) r) f 0)
 
-    slots-are : sum (slotsLeadingTo h S r) (upTo (length (L .frames))) ≡ inFrames (homeIn L) r (L .frames)
+    slots-are : sumOf (slotsLeadingTo h S r) (upTo (length (L .frames))) ≡ inFrames (homeIn L) r (L .frames)
     unfolding inFrames
-    slots-are = sum-below _ _ (length (L .frames)) slots-into ∙ sum-places (sum (into (homeIn L) r)) (L .frames) []
+    slots-are = sum-below _ _ (length (L .frames)) slots-into ∙ sum-places (sumOf (into (homeIn L) r)) (L .frames) []
 
-    counted-slots : sum (slotsLeadingTo h S r) (upTo (L .counted)) ≡ inFrames (homeIn L) r (take (L .counted) (L .frames))
+    counted-slots : sumOf (slotsLeadingTo h S r) (upTo (L .counted)) ≡ inFrames (homeIn L) r (take (L .counted) (L .frames))
     unfolding inFrames
     counted-slots =
         let l : L .counted ≤ length (L .frames) = omega (arith, v .frames .mark) in
-        sum-below _ _ (L .counted) (λ i k. slots-into i (omega arith)) ∙ sum-part (sum (into (homeIn L) r)) (L .frames) [] 0 (L .counted) (L .counted) (omega arith) l
+        sum-below _ _ (L .counted) (λ i k. slots-into i (omega arith)) ∙ sum-part (sumOf (into (homeIn L) r)) (L .frames) [] 0 (L .counted) (L .counted) (omega arith) l
 
   -- ---- words
 
@@ -77,10 +77,10 @@ module _ {L : Model} {sp : List ℕ} {ids : ℕ → List ℕ} {h : History} (S :
       (rw e (onObjects .laid q l .words w m ∙ rw z), word-known L v q w l m z)
 
   -- word w of object q, as the history reads it, and all its pointers
-  abbrev marked : ℕ → ℕ → Word
-  marked q w = record { mark = getD (marksIn L q) w 0; value = getD (S .heap) (spot sp q - 1 + 1 + w) 0 }
+  abbrev wordMarked : ℕ → ℕ → Word
+  wordMarked q w = record { mark = getD (marksIn L q) w 0; value = getD (S .heap) (spot sp q - 1 + 1 + w) 0 }
 
-  pointers-are : (q : ℕ) → pointersOf h S (met L sp q) ≡ keep (λ w. not (eqb (w .mark) 0)) (map (marked q) (upTo (length (marksIn L q))))
+  pointers-are : (q : ℕ) → pointersOf h S (met L sp q) ≡ keep (λ w. not (eqb (w .mark) 0)) (map (wordMarked q) (upTo (length (marksIn L q))))
   unfolding pointersOf
   pointers-are q = ap (λ ks.
       let ms = marks ks ((object (L .objects) q) .kind) in
@@ -90,9 +90,9 @@ module _ {L : Model} {sp : List ℕ} {ids : ℕ → List ℕ} {h : History} (S :
   unfolding wordsLead allowed
   words-lead = each-met t _ (λ q l.
       let test : Word → Bool = λ w. eqb (w .value) 0 || (leads h (w .value) && rule (w .mark) (homeOf h (w .value)) (homeIn L q) (parentOf h (homeIn L q))) in
-      let all = map (marked q) (upTo (length (marksIn L q))) in
+      let all = map (wordMarked q) (upTo (length (marksIn L q))) in
       ap (every test) (pointers-are q) ∙ true-every test (keep (λ w. not (eqb (w .mark) 0)) all) (all-map (λ x k. k .0 (k .1)) (keep (λ w. not (eqb (w .mark) 0)) all)
-      (all-keep (λ x. not (eqb (x .mark) 0) ≡ true → test x ≡ true) _ all (all-change (λ w. not (eqb (getD (marksIn L q) w 0) 0) ≡ true → test (marked q w) ≡ true) _ (marked q) (λ w e. e) (upTo (length (marksIn L q)))
+      (all-keep (λ x. not (eqb (x .mark) 0) ≡ true → test x ≡ true) _ all (all-change (λ w. not (eqb (getD (marksIn L q) w 0) 0) ≡ true → test (wordMarked q w) ≡ true) _ (wordMarked q) (λ w e. e) (upTo (length (marksIn L q)))
       (all-upTo _ (length (marksIn L q)) (λ w k z. word q l w k (not-true (eqb (getD (marksIn L q) w 0) 0) z)))))))
     where
       word : (q : ℕ) → Alive L q → (w : ℕ) → w < length (marksIn L q) → eqb (getD (marksIn L q) w 0) 0 ≡ false
@@ -102,7 +102,7 @@ module _ {L : Model} {sp : List ℕ} {ids : ℕ → List ℕ} {h : History} (S :
           let x = getD (wordsIn L q) w 0 in
           let o = object-valid L v q l in
           let n = word-value q l w k z in
-          let f = both (known (livesIn L) (homeIn L) x) _ (rw z at (all₂-in _ (marksIn L q) (wordsIn L q) w 0 0 (o .marked l) k (omega (arith, o .sized)))) in
+          let f = both (known (livesIn L) (homeIn L) x) _ (rw z at (all₂-in _ (marksIn L q) (wordsIn L q) w 0 0 (o .fineWords l) k (omega (arith, o .sized)))) in
           rw (n .0, home-is t v onObjects x (n .1), parent-is t v (homeIn L q) l, spot-zero onObjects x (n .1)) (by-test (eqb x 0) (λ e. rw e) (λ e.
           rw (e, rw (spot-zero onObjects x (n .1), e) at (pointer-leads x (n .1)), rw e at (f .1))))
 
@@ -113,9 +113,9 @@ module _ {L : Model} {sp : List ℕ} {ids : ℕ → List ℕ} {h : History} (S :
         let f : Word → ℕ = λ w. bit (eqb (w .mark) 1 && eqb (homeOf h (w .value)) r) in
         let ms = marksIn L q in
         ap (pick (eqb (homeIn L q) r) 0)
-        (ap (sum f) (pointers-are q)
-        ∙ sum-keep f (λ w. not (eqb (w .mark) 0)) (map (marked q) (upTo (length ms)))
-        ∙ sum-map (λ w. pick (not (eqb (w .mark) 0)) (f w) 0) (marked q) (upTo (length ms))
+        (ap (sumOf f) (pointers-are q)
+        ∙ sum-keep f (λ w. not (eqb (w .mark) 0)) (map (wordMarked q) (upTo (length ms)))
+        ∙ sum-map (λ w. pick (not (eqb (w .mark) 0)) (f w) 0) (wordMarked q) (upTo (length ms))
         ∙ sum-below _ (λ w. freeInto (homeIn L) r (getD ms w 0) (getD (wordsIn L q) w 0)) (length ms) (each q l)
         ∙ sum₂-places (freeInto (homeIn L) r) ms (wordsIn L q) 0 0 (object-valid L v q l .sized))
       where
@@ -129,9 +129,9 @@ module _ {L : Model} {sp : List ℕ} {ids : ℕ → List ℕ} {h : History} (S :
             rw (z, e, n .0, home-is t v onObjects (getD (wordsIn L q) w 0) (n .1)))
             (λ e. rw e (pick-same {A = ℕ} (not (eqb (getD (marksIn L q) w 0) 0)) 0))
 
-    words-are : sum (wordsLeadingTo h S r) (h .objects) ≡ words L r
+    words-are : sumOf (wordsLeadingTo h S r) (h .objects) ≡ wordPointers L r
     unfolding inWords fromObject
-    words-are = t .objects (wordsLeadingTo h S r) ∙ ap (λ f. sum f (idsIn L)) (fun-ext each) ∙ ids-objects L (fromObject (livesIn L) (homeIn L) (L .kinds) r)
+    words-are = t .objects (wordsLeadingTo h S r) ∙ ap (λ f. sumOf f (idsIn L)) (fun-ext each) ∙ ids-objects L (fromObject (livesIn L) (homeIn L) (L .kinds) r)
       where
         each : (q : ℕ) → pick (livesIn L (homeIn L q)) (wordsLeadingTo h S r (met L sp q)) 0 ≡ fromObject (livesIn L) (homeIn L) (L .kinds) r (object (L .objects) q)
         each q = by-test (livesIn L (homeIn L q)) (λ l. rw (l, words-into q l) (go (eqb (homeIn L q) r))) (λ l. rw l)
@@ -150,5 +150,5 @@ module _ {L : Model} {sp : List ℕ} {ids : ℕ → List ℕ} {h : History} (S :
     unfolding uncountedInto stored outside
     uncounted-is =
         let e : min (L .counted) (length (L .frames)) ≡ L .counted = omega (arith, v .frames .mark) in
-        let c = ap₂ (λ m n. sum (λ i. pick (leb m i) (slotsLeadingTo h S r i) 0) (upTo n)) (t .counted) (frames-length t) in
+        let c = ap₂ (λ m n. sumOf (λ i. pick (leb m i) (slotsLeadingTo h S r i) 0) (upTo n)) (t .counted) (frames-length t) in
         omega (arith, c, rw (e, counted-slots r, slots-are r) at (sum-above (slotsLeadingTo h S r) (L .counted) (length (L .frames))))

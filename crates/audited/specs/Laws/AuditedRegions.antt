@@ -9,7 +9,7 @@ use native.Mathlib.Numerals.{add-one}
 use native.Mathlib.Omega.{arith}
 use lib.Dec.{eqb, ltb, leb}
 use borrow.Author.Tests.{lt-ltb, le-leb, eqb-true, eq-eqb, ne-eqb}
-use Rattle.lists.specs.Lists.{bit, any, every, count, times, among}
+use Rattle.lists.specs.Lists.{bit, anyOf, every, countOf, times, among}
 use Rattle.lists.specs.Laws.Tests.{by-test, or-right, or-other}
 use Rattle.lists.specs.Laws.Sums.{sum-map}
 use Rattle.lists.specs.Laws.Finds.{any-map, any-count, all-found, true-every}
@@ -22,13 +22,13 @@ use Rattle.pages.specs.Pages.{pageCount, ownerAt}
 use Rattle.outcomes.specs.Store.{Store, regions, pages}
 use Rattle.outcomes.specs.History.{entries}
 use Rattle.outcomes.specs.Sound.{placed, newestOwn, oldestOwn}
 use Rattle.refinement.specs.Represents.{spot, tagFor, RoomAgrees}
 use Rattle.refinement.specs.Laws.Tags.{entry-name}
 use Rattle.refinement.specs.Laws.Reads.{page-count}
-use Rattle.refinement.specs.Laws.RebuildRegions.{entries-by}
-use Rattle.refinement.specs.Laws.Tells.{home-is}
-use Rattle.refinement.specs.Laws.AuditedObjects.{Agrees}
-use Rattle.refinement.specs.Laws.AuditedLists.{entries-all, begin-tells}
+use Rattle.audited.specs.Laws.RebuildRegions.{entries-by}
+use Rattle.histories.specs.Laws.Tells.{home-is}
+use Rattle.audited.specs.Laws.AuditedObjects.{Agrees}
+use Rattle.audited.specs.Laws.AuditedLists.{entries-all, begin-tells}
 
 module _ {L : Model} {sp : List ℕ} {ids : ℕ → List ℕ} (S : Store) (a : Agrees L sp ids S) where
   -- a test over the entries holds if it does at each live region's
@@ -36,14 +36,14 @@ module _ {L : Model} {sp : List ℕ} {ids : ℕ → List ℕ} (S : Store) (a : A
   entries-every f h = true-every f (entries S) (entries-all S a (λ i. f i ≡ true) h)
 
   -- how often a name is listed
-  entries-named : (r : ℕ) → count (λ i. eqb (nameAt (regions S) i) r) (entries S) ≡ count (called r) (L .regions)
+  entries-named : (r : ℕ) → countOf (λ i. eqb (nameAt (regions S) i) r) (entries S) ≡ countOf (called r) (L .regions)
   entries-named r = entries-by S (λ n. bit (eqb n r)) ∙ a .onRegions .rows (λ n. bit (eqb n r))
 
-  entries-live : (r : ℕ) → any (λ i. eqb (nameAt (regions S) i) r) (entries S) ≡ livesIn L r
+  entries-live : (r : ℕ) → anyOf (λ i. eqb (nameAt (regions S) i) r) (entries S) ≡ livesIn L r
   entries-live r = any-count (λ i. eqb (nameAt (regions S) i) r) (entries S) ∙ ap (ltb 0) (entries-named r) ∙ sym (any-count (called r) (L .regions))
 
-  pub one : among 1 (map (nameAt (regions S)) (entries S)) ≡ true
-  one = any-map (λ x. eqb x 1) (nameAt (regions S)) (entries S) ∙ entries-live 1 ∙ a .valid .names .one
+  pub permanent : among 1 (map (nameAt (regions S)) (entries S)) ≡ true
+  permanent = any-map (λ x. eqb x 1) (nameAt (regions S)) (entries S) ∙ entries-live 1 ∙ a .valid .names .permanent
 
   -- ---- the audit's tests of an entry
 
@@ -65,8 +65,8 @@ module _ {L : Model} {sp : List ℕ} {ids : ℕ → List ℕ} (S : Store) (a : A
     pub deep : leb (levelAt (regions S) i) 16 ≡ true
     deep = le-leb (levelAt (regions S) i) 16 (omega (arith, a .onRegions .entry r l .level, valid-parent .deep))
 
-    pub past : leb (nameAt (regions S) i) ((regions S) .given) ≡ true
-    past = le-leb (nameAt (regions S) i) ((regions S) .given) (rw (entry-name (a .onRegions) r l, a .onRegions .given) (live-all (λ r. r ≤ L .given) (L .regions) r (a .valid .names .past) (omega arith) l))
+    pub namesGiven : leb (nameAt (regions S) i) ((regions S) .given) ≡ true
+    namesGiven = le-leb (nameAt (regions S) i) ((regions S) .given) (rw (entry-name (a .onRegions) r l, a .onRegions .given) (live-all (λ r. r ≤ L .given) (L .regions) r (a .valid .names .namesGiven) (omega arith) l))
 
     -- its level by the region above
     level-by : (u : ℕ) → parentIn L r ≡ u → levelAt (regions S) i ≡ levelOf (L .regions) u + 1

@@ -16,7 +16,7 @@ use Rattle.pages.specs.Pages.{pageCount, takenAt}
 use Rattle.objects.specs.Objects.{headersTo, headersOn}
 use Rattle.outcomes.specs.Store.{Store, kinds, pages}
 use Rattle.outcomes.specs.Laws.Begin.{holderOf, headersOf, headers}
-use Rattle.refinement.specs.Laws.RebuildWalk.{Stacked, sizeAt, walk-stacked, stacked-all, stacked-wider, stacked-pages}
+use Rattle.audited.specs.Laws.RebuildWalk.{Stacked, sizeAt, walk-stacked, stacked-all, stacked-wider, stacked-pages}
 
 module _ (S : Store) where
   -- the words of the object whose header stands at place q

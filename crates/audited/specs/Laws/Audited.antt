@@ -17,15 +17,15 @@ use Rattle.outcomes.specs.Store.{Store, frames, regions, pages}
 use Rattle.outcomes.specs.History.{begin, entries, listedRegions, storedCount, uncountedInto, outside, countsExact}
 use Rattle.outcomes.specs.Sound.{Sound}
 use Rattle.outcomes.specs.Shape.{Shaped}
 use Rattle.refinement.specs.Represents.{Represents}
 use Rattle.refinement.specs.Laws.Tags.{entry-name}
-use Rattle.refinement.specs.Laws.Tells.{Tells}
-use Rattle.refinement.specs.Laws.Pointers.{slots-lead, words-lead, outside-is, uncounted-is}
-use Rattle.refinement.specs.Laws.RebuildStack.{is-within}
-use Rattle.refinement.specs.Laws.AuditedObjects.{Agrees, agrees}
-use Rattle.refinement.specs.Laws.AuditedLists.{entries-all, begin-tells}
-use Rattle.refinement.specs.Laws.AuditedRegions.{entries-every, distinct, one, deep, past, stands, own-newest, own-oldest}
-use Rattle.refinement.specs.Laws.AuditedHeld.{declared, sizes, marked, widths, held, filling}
+use Rattle.histories.specs.Laws.Tells.{Tells}
+use Rattle.histories.specs.Laws.Pointers.{slots-lead, words-lead, outside-is, uncounted-is}
+use Rattle.audited.specs.Laws.RebuildStack.{is-within}
+use Rattle.audited.specs.Laws.AuditedObjects.{Agrees, agrees}
+use Rattle.audited.specs.Laws.AuditedLists.{entries-all, begin-tells}
+use Rattle.audited.specs.Laws.AuditedRegions.{entries-every, distinct, permanent, deep, namesGiven, stands, own-newest, own-oldest}
+use Rattle.audited.specs.Laws.AuditedHeld.{declared, sizes, marksFit, widths, held, filling}
 
 module _ {L : Model} {sp : List ℕ} {ids : ℕ → List ℕ} (S : Store) (v : Valid L) (h : Represents L sp ids S) where
   a : Agrees L sp ids S
@@ -55,7 +55,7 @@ module _ {L : Model} {sp : List ℕ} {ids : ℕ → List ℕ} (S : Store) (v : V
     made = is-within 1 256 ((pages S) .made) (h .onPages .some) (h .onPages .most);
     declared = declared S a;
     sizes = sizes S a;
-    marks = marked S a;
+    marks = marksFit S a;
     standing = le-leb ((frames S) .standing) 32 (omega (arith, h .onFrames .standing, v .frames .many));
     widths = widths S a;
     levels = entries-every S a _ (deep S a);
@@ -63,8 +63,8 @@ module _ {L : Model} {sp : List ℕ} {ids : ℕ → List ℕ} (S : Store) (v : V
     counted = le-leb ((frames S) .counted) ((frames S) .standing - 1) (omega (arith, h .onFrames .standing, h .onFrames .counted, v .frames .mark));
     heapLength = eq-eqb (length (S .heap)) (64 * (pages S) .made) (h .onPages .whole);
     distinct = entries-every S a _ (distinct S a);
-    past = entries-every S a _ (past S a);
-    one = one S a;
+    namesGiven = entries-every S a _ (namesGiven S a);
+    permanent = permanent S a;
     parents = entries-every S a _ (stands S a);
     filling = filling S a names;
     newest = entries-every S a _ (own-newest S a);

@@ -24,10 +24,10 @@ use Rattle.pages.specs.declared.Pages.{Pages}
 use Rattle.pages.specs.Pages.{pageCount, ownerAt, isFree}
 use Rattle.outcomes.specs.Store.{Store, regions, pages}
 use Rattle.outcomes.specs.History.{History, Holding, isLive, holders, pagesHeld, begin, listedHeld, listedFree}
 use Rattle.refinement.specs.Represents.{RegionsAgree, PagesAgree, Owned}
 use Rattle.refinement.specs.Laws.Tags.{entry-name, live-named, tag-name, tag-some}
 use Rattle.refinement.specs.Laws.Reads.{page-count}
-use Rattle.refinement.specs.Laws.Tells.{Tells, pick-bit, live-is}
+use Rattle.histories.specs.Laws.Tells.{Tells, pick-bit, live-is}
 
 -- who holds a page whose owner has tag t
 abbrev pub holding : List ℕ → ℕ → List ℕ

@@ -24,9 +24,9 @@ use Rattle.outcomes.specs.History.{begin, listedKinds, listedFrames, slotsLead,
 use Rattle.outcomes.specs.Sound.{Sound, within}
 use Rattle.outcomes.specs.Shape.{Shaped}
 use Rattle.outcomes.specs.Laws.Pointers.{kinds-length, marks-length, marks-at, every-slot}
 use Rattle.refinement.specs.Represents.{FramesAgree, KindsAgree}
-use Rattle.refinement.specs.Rebuild.{places, idOf, readFrame, rebuilt}
-use Rattle.refinement.specs.Laws.RebuildIds.{Known, known}
+use Rattle.audited.specs.Rebuild.{places, idOf, readFrame, rebuilt}
+use Rattle.audited.specs.Laws.RebuildIds.{Known, known}
 
 -- a number from a to b, both in
 pub within-is : (a b n : ℕ) → within a b n ≡ true → (a ≤ n) × (n ≤ b)
@@ -50,7 +50,7 @@ module _ (S : Store) (sh : Shaped S) (so : Sound S) where
     declared = sym listed-all;
     sizes = marks-length S;
     few = λ n h. sizes-few n (omega (arith, listed-all)) .1;
-    marked = marks-at S;
+    marksAgree = marks-at S;
   }
 
   size-few : (n : ℕ) → n < kindCount (kinds S) → (1 ≤ sizeOf (kinds S) (suc n)) × (sizeOf (kinds S) (suc n) ≤ 16)

@@ -9,7 +9,7 @@ use native.Mathlib.Numerals.{add-one}
 use lib.Dec.{eqb}
 use lib.ListN.{getD}
 use borrow.Author.Tests.{eqb-true, eqb-false, eq-eqb, ne-eqb, not-true}
-use Rattle.lists.specs.Lists.{pick, any, every, keep, find, sum, count, All, upTo, times}
+use Rattle.lists.specs.Lists.{pick, anyOf, every, keep, findOr, sumOf, countOf, All, upTo, times}
 use Rattle.lists.specs.Laws.All.{all-in, all-change}
 use Rattle.lists.specs.Laws.Sums.{sum-map, sum-keep}
 use Rattle.lists.specs.Laws.Finds.{any-map, any-keep, find-keep, every-true}
@@ -23,7 +23,7 @@ use Rattle.outcomes.specs.History.{entries}
 use Rattle.outcomes.specs.Sound.{Sound}
 use Rattle.outcomes.specs.Shape.{Shaped}
 use Rattle.outcomes.specs.Laws.Begin.{used-below, name-times, entry-is}
-use Rattle.refinement.specs.Rebuild.{readRegion, rebuilt}
+use Rattle.audited.specs.Rebuild.{readRegion, rebuilt}
 
 -- ---- any memory
 
@@ -38,9 +38,9 @@ pub used-is : (g : Regions) (i : ℕ) → used g i ≡ true → nameAt g i ≢ 0
 used-is g i e = eqb-false (nameAt g i) 0 (not-true (eqb (nameAt g i) 0) e)
 
 -- whatever is added up over the entries in use
-pub entries-by : (S : Store) (f : ℕ → ℕ) → sum (λ i. f (nameAt (regions S) i)) (entries S) ≡ sum (λ i. pick (eqb (nameAt (regions S) i) 0) 0 (f (nameAt (regions S) i))) (upTo 64)
+pub entries-by : (S : Store) (f : ℕ → ℕ) → sumOf (λ i. f (nameAt (regions S) i)) (entries S) ≡ sumOf (λ i. pick (eqb (nameAt (regions S) i) 0) 0 (f (nameAt (regions S) i))) (upTo 64)
 unfolding entries
-entries-by S f = sum-keep (λ i. f (nameAt (regions S) i)) (used (regions S)) (upTo 64) ∙ ap (λ h. sum h (upTo 64)) (fun-ext (λ i. go i (eqb (nameAt (regions S) i) 0)))
+entries-by S f = sum-keep (λ i. f (nameAt (regions S) i)) (used (regions S)) (upTo 64) ∙ ap (λ h. sumOf h (upTo 64)) (fun-ext (λ i. go i (eqb (nameAt (regions S) i) 0)))
   where
     go : (i : ℕ) (b : Bool) → pick (not b) (f (nameAt (regions S) i)) 0 ≡ pick b 0 (f (nameAt (regions S) i))
     go i true = refl
@@ -62,7 +62,7 @@ module _ (S : Store) (sh : Shaped S) where
       all-change (λ i. P (readRegion S i)) P (readRegion S) (λ i p. p) (entries S) (each-kept (λ i. P (readRegion S i)) (used (regions S)) 64 (λ i a b. h i (used-is (regions S) i b)))
 
   -- the regions that live are those that have an entry
-  live-by : (r : ℕ) → livesIn (rebuilt S) r ≡ any (λ i. eqb (nameAt (regions S) i) r) (entries S)
+  live-by : (r : ℕ) → livesIn (rebuilt S) r ≡ anyOf (λ i. eqb (nameAt (regions S) i) r) (entries S)
   unfolding rebuilt readRegion
   live-by r = any-map (called r) (readRegion S) (entries S)
 
@@ -87,7 +87,7 @@ module _ (S : Store) (sh : Shaped S) where
       let i = getD (entries S) (t .0) 0 in
       (i, all-in (λ i. nameAt (regions S) i ≢ 0) (entries S) (t .0) 0 (each-kept (λ i. nameAt (regions S) i ≢ 0) (used (regions S)) 64 (λ i a b. used-is (regions S) i b)) (t .1), eqb-true (nameAt (regions S) i) r (t .2))
 
-  pub rows : (f : ℕ → ℕ) → sum (λ i. pick (eqb (nameAt (regions S) i) 0) 0 (f (nameAt (regions S) i))) (upTo 64) ≡ sum (λ g. f (g .name)) ((rebuilt S) .regions)
+  pub rows : (f : ℕ → ℕ) → sumOf (λ i. pick (eqb (nameAt (regions S) i) 0) 0 (f (nameAt (regions S) i))) (upTo 64) ≡ sumOf (λ g. f (g .name)) ((rebuilt S) .regions)
   unfolding rebuilt readRegion
   rows f = sym (entries-by S f) ∙ sym (sum-map (λ g. f (g .name)) (readRegion S) (entries S))
 
@@ -95,13 +95,13 @@ module _ (S : Store) (sh : Shaped S) where
 
   module _ (so : Sound S) where
     -- an entry's name is no other's
-    few : (i : ℕ) → nameAt (regions S) i ≢ 0 → count (λ k. eqb (nameAt (regions S) k) (nameAt (regions S) i)) (upTo 64) ≡ 1
+    few : (i : ℕ) → nameAt (regions S) i ≢ 0 → countOf (λ k. eqb (nameAt (regions S) k) (nameAt (regions S) i)) (upTo 64) ≡ 1
     few i h = sym (name-times S (nameAt (regions S) i) h) ∙ eqb-true (times (nameAt (regions S) i) (map (nameAt (regions S)) (entries S))) 1 (each-entry _ (so .distinct) i h)
 
     entry-used : (i : ℕ) → nameAt (regions S) i ≢ 0 → entryOf (regions S) (nameAt (regions S) i) ≡ i
     entry-used = entry-is S (sh .inRegions .names .0) few
 
-    find-used : (i : ℕ) → nameAt (regions S) i ≢ 0 → find (λ k. eqb (nameAt (regions S) k) (nameAt (regions S) i)) 64 (upTo 64) ≡ i
+    find-used : (i : ℕ) → nameAt (regions S) i ≢ 0 → findOr (λ k. eqb (nameAt (regions S) k) (nameAt (regions S) i)) 64 (upTo 64) ≡ i
     unfolding entryOf entryIn nameAt
     find-used i h = rw (ne-eqb (nameAt (regions S) i) 0 h) at (entry-used i h)
 

@@ -9,7 +9,7 @@ use native.Mathlib.Omega.{arith}
 use lib.Dec.{eqb}
 use lib.ListN.{length, getD}
 use borrow.Author.Tests.{eqb-true, eq-eqb}
-use Rattle.lists.specs.Lists.{bit, pick, sum, count, All, upTo}
+use Rattle.lists.specs.Lists.{bit, pick, sumOf, countOf, All, upTo}
 use Rattle.lists.specs.Laws.Tests.{by-test}
 use Rattle.lists.specs.Laws.All.{all-map, all-both}
 use Rattle.lists.specs.Laws.Sums.{sum-same, sum-plus, sum-ones}
@@ -21,18 +21,18 @@ use Rattle.model.specs.Paged.{Paged, Lies, space, spaceOf}
 use Rattle.regions.specs.Regions.{tagOf, entryOf, newestAt}
 use Rattle.pages.specs.Pages.{ownerAt, pagesOf, pageCount, pagesIn}
 use Rattle.outcomes.specs.Store.{Store, regions, pages}
 use Rattle.refinement.specs.Represents.{wordsIn, Tiles, RoomAgrees}
 use Rattle.refinement.specs.Laws.Tags.{tag-some}
 use Rattle.refinement.specs.Laws.Reads.{page-count}
 use Rattle.refinement.specs.Laws.Report.{names-live, ids-objects, held-pages}
-use Rattle.refinement.specs.Laws.Tells.{pick-bit}
-use Rattle.refinement.specs.Laws.AuditedObjects.{Agrees}
+use Rattle.histories.specs.Laws.Tells.{pick-bit}
+use Rattle.audited.specs.Laws.AuditedObjects.{Agrees}
 
-pub tiles-sum : (L : Model) (sp : List ℕ) (a e : ℕ) (ps : List ℕ) → Tiles L sp a e ps → a + sum (λ q. length (wordsIn L q) + 1) ps ≡ e
+pub tiles-sum : (L : Model) (sp : List ℕ) (a e : ℕ) (ps : List ℕ) → Tiles L sp a e ps → a + sumOf (λ q. length (wordsIn L q) + 1) ps ≡ e
 tiles-sum L sp a e [] t = omega (arith, t)
 tiles-sum L sp a e (q ∷ qs) t = omega (arith, tiles-sum L sp (a + 1 + length (wordsIn L q)) e qs (t .2))
 
-sum-times : {A : Type 0} (f : A → ℕ) (l : List A) → sum (λ x. 64 * f x) l ≡ 64 * sum f l
+sum-times : {A : Type 0} (f : A → ℕ) (l : List A) → sumOf (λ x. 64 * f x) l ≡ 64 * sumOf f l
 sum-times f [] = refl
 sum-times f (x ∷ xs) = omega (arith, sum-times f xs)
 
@@ -42,20 +42,20 @@ module _ {L : Model} {sp : List ℕ} {ids : ℕ → List ℕ} (S : Store) (a : A
   own = all-both _ _ (L .regions) (names-live (L .regions)) (found-itself (L .regions) (a .valid .names .distinct))
 
   -- the pages with tag t
-  pages-by : (t : ℕ) → pagesOf (pages S) t ≡ sum (λ j. bit (eqb (ownerAt (pages S) j) t)) (upTo ((pages S) .made))
+  pages-by : (t : ℕ) → pagesOf (pages S) t ≡ sumOf (λ j. bit (eqb (ownerAt (pages S) j) t)) (upTo ((pages S) .made))
   unfolding pagesOf pagesIn ownerAt pageCount
-  pages-by t = ap (λ n. count (λ j. eqb (ownerAt (pages S) j) t) (upTo n)) (page-count (a .onPages))
+  pages-by t = ap (λ n. countOf (λ j. eqb (ownerAt (pages S) j) t) (upTo n)) (page-count (a .onPages))
 
   -- whether the region named r holds page j, and the words that its objects take there
   abbrev holds : ℕ → ℕ → Bool
   holds r j = eqb (ownerAt (pages S) j) (tagOf (regions S) r)
 
-  pages-of : (g : Region) → (livesIn L (g .name) ≡ true) × (region (L .regions) (g .name) ≡ g) → g .pages ≡ sum (λ j. pick (holds (g .name) j) 1 0) (upTo ((pages S) .made))
+  pages-of : (g : Region) → (livesIn L (g .name) ≡ true) × (region (L .regions) (g .name) ≡ g) → g .pages ≡ sumOf (λ j. pick (holds (g .name) j) 1 0) (upTo ((pages S) .made))
   pages-of g h =
       ap (λ x. x .pages) (sym (h .1)) ∙ sym (a .onPages .held (g .name) (h .0)) ∙ pages-by (tagOf (regions S) (g .name))
-      ∙ ap (λ f. sum f (upTo ((pages S) .made))) (fun-ext (λ j. pick-bit (holds (g .name) j)))
+      ∙ ap (λ f. sumOf f (upTo ((pages S) .made))) (fun-ext (λ j. pick-bit (holds (g .name) j)))
 
-  whole : L .free + sum (λ g. g .pages) (L .regions) ≡ (pages S) .made
+  whole : L .free + sumOf (λ g. g .pages) (L .regions) ≡ (pages S) .made
   whole =
       let free : ℕ → Bool = λ j. eqb (ownerAt (pages S) j) 0 in
       omega (
@@ -65,7 +65,7 @@ module _ {L : Model} {sp : List ℕ} {ids : ℕ → List ℕ} (S : Store) (a : A
         sum-same (λ g. g .pages) _ (L .regions) (all-map pages-of (L .regions) own),
         held-pages L sp ids (regions S) (pages S) (S .heap) (a .valid) (a .onRegions) (a .onPages) (a .onObjects) (λ j. 1),
         sum-plus (λ j. bit (free j)) (λ j. pick (free j) 0 1) (upTo ((pages S) .made)),
-        ap (λ f. sum f (upTo ((pages S) .made))) (fun-ext (λ j. go (free j))),
+        ap (λ f. sumOf f (upTo ((pages S) .made))) (fun-ext (λ j. go (free j))),
         sum-ones (upTo ((pages S) .made)),
         length-upTo ((pages S) .made),
       )
@@ -82,16 +82,16 @@ module _ {L : Model} {sp : List ℕ} {ids : ℕ → List ℕ} (S : Store) (a : A
       n = (pages S) .made
 
       taken : ℕ → ℕ
-      taken j = pick (holds (g .name) j) (sum (λ q. length (wordsIn L q) + 1) (ids j)) 0
+      taken j = pick (holds (g .name) j) (sumOf (λ q. length (wordsIn L q) + 1) (ids j)) 0
 
-      space-is : sum (spaceOf (g .name)) (L .objects) ≡ sum taken (upTo n)
+      space-is : sumOf (spaceOf (g .name)) (L .objects) ≡ sumOf taken (upTo n)
       space-is = sym (ids-objects L (spaceOf (g .name))) ∙ sym (a .onObjects .once (g .name) (h .0) (λ q. length (wordsIn L q) + 1))
 
-      pages-are : 64 * g .pages ≡ sum (λ j. 64 * pick (holds (g .name) j) 1 0) (upTo n)
+      pages-are : 64 * g .pages ≡ sumOf (λ j. 64 * pick (holds (g .name) j) 1 0) (upTo n)
       pages-are = omega (arith, pages-of g h, sum-times (λ j. pick (holds (g .name) j) 1 0) (upTo n))
 
       -- a page that the region holds
-      on-page : (j : ℕ) → j < n → holds (g .name) j ≡ true → (sum (λ q. length (wordsIn L q) + 1) (ids j) ≡ getD ((pages S) .taken) j 0) × (getD ((pages S) .taken) j 0 ≤ 64)
+      on-page : (j : ℕ) → j < n → holds (g .name) j ≡ true → (sumOf (λ q. length (wordsIn L q) + 1) (ids j) ≡ getD ((pages S) .taken) j 0) × (getD ((pages S) .taken) j 0 ≤ 64)
       on-page j k e =
           let m : ownerAt (pages S) j ≢ 0 = λ z. tag-some (regions S) (g .name) (sym (eqb-true (ownerAt (pages S) j) (tagOf (regions S) (g .name)) e) ∙ z) in
           (omega (arith, tiles-sum L sp (64 * j) (64 * j + getD ((pages S) .taken) j 0) (ids j) (a .onObjects .tiled j k m)), a .onObjects .full j k m)
@@ -99,10 +99,10 @@ module _ {L : Model} {sp : List ℕ} {ids : ℕ → List ℕ} (S : Store) (a : A
       few : (j : ℕ) → j < n → taken j ≤ 64 * pick (holds (g .name) j) 1 0
       few j k = by-test (holds (g .name) j) (λ e. let t = on-page j k e in rw e (omega arith)) (λ e. rw e (omega arith))
 
-      left : (k c : ℕ) → k < n → taken k + c ≤ 64 * pick (holds (g .name) k) 1 0 → sum (spaceOf (g .name)) (L .objects) + c ≤ 64 * g .pages
+      left : (k c : ℕ) → k < n → taken k + c ≤ 64 * pick (holds (g .name) k) 1 0 → sumOf (spaceOf (g .name)) (L .objects) + c ≤ 64 * g .pages
       left k c l e = omega (arith, space-is, pages-are, sum-slack taken (λ j. 64 * pick (holds (g .name) j) 1 0) n k c few l e)
 
-      room : (x : ℕ) → RoomAgrees (g .room) (pages S) (tagOf (regions S) (g .name)) x → sum (spaceOf (g .name)) (L .objects) + g .room ≤ 64 * g .pages
+      room : (x : ℕ) → RoomAgrees (g .room) (pages S) (tagOf (regions S) (g .name)) x → sumOf (spaceOf (g .name)) (L .objects) + g .room ≤ 64 * g .pages
       room zero e = omega (arith, left 0 0 (a .onPages .some) (omega (arith, few 0 (a .onPages .some))))
       room (suc j) e =
           let o : holds (g .name) j ≡ true = eq-eqb (ownerAt (pages S) j) (tagOf (regions S) (g .name)) (e .own) in

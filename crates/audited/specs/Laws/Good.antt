@@ -9,14 +9,14 @@ use Rattle.outcomes.specs.Store.{Store, regions, pages}
 use Rattle.outcomes.specs.History.{begin}
 use Rattle.outcomes.specs.Sound.{Sound}
 use Rattle.outcomes.specs.Shape.{Shaped}
 use Rattle.refinement.specs.Represents.{Represents}
-use Rattle.refinement.specs.Rebuild.{places, idsOn, rebuilt}
-use Rattle.refinement.specs.Laws.Rebuild.{rebuilt-valid, rebuilt-represents}
-use Rattle.refinement.specs.Laws.Tells.{Tells}
-use Rattle.refinement.specs.Laws.TellsPages.{TellsPages, begin-pages}
-use Rattle.refinement.specs.Laws.AuditedObjects.{agrees}
-use Rattle.refinement.specs.Laws.AuditedLists.{begin-tells}
-use Rattle.refinement.specs.Laws.AuditedPages.{paged}
+use Rattle.audited.specs.Rebuild.{places, idsOn, rebuilt}
+use Rattle.audited.specs.Laws.Rebuild.{rebuilt-valid, rebuilt-represents}
+use Rattle.histories.specs.Laws.Tells.{Tells}
+use Rattle.histories.specs.Laws.TellsPages.{TellsPages, begin-pages}
+use Rattle.audited.specs.Laws.AuditedObjects.{agrees}
+use Rattle.audited.specs.Laws.AuditedLists.{begin-tells}
+use Rattle.audited.specs.Laws.AuditedPages.{paged}
 
 -- the store S stands for the valid model L of N pages
 pub record Good (N : ℕ) (L : Model) (S : Store) : Type 0 where

@@ -9,7 +9,7 @@ use native.Mathlib.Omega.{arith}
 use lib.Dec.{eqb, ltb, leb}
 use lib.ListN.{length, getD, length-map}
 use borrow.Author.Tests.{ltb-true, ltb-false, eqb-true, eqb-false, ne-eqb}
-use Rattle.lists.specs.Lists.{pick, sum, All, upTo, among}
+use Rattle.lists.specs.Lists.{pick, sumOf, All, upTo, among}
 use Rattle.lists.specs.Laws.Tests.{by-test, pick-same}
 use Rattle.lists.specs.Laws.All.{all-map}
 use Rattle.lists.specs.Laws.Sums.{sum-map, sum-joined, sum-same, sum-pick}
@@ -24,15 +24,15 @@ use Rattle.outcomes.specs.Store.{Store, kinds, regions, pages}
 use Rattle.outcomes.specs.Sound.{Sound}
 use Rattle.outcomes.specs.Shape.{Shaped}
 use Rattle.outcomes.specs.Laws.Begin.{holderOf, headersOf, headers}
 use Rattle.refinement.specs.Represents.{spot, Alive, wordsIn, idsIn, Laid, Tiles, ObjectsAgree}
-use Rattle.refinement.specs.Rebuild.{places, idOf, idsOn, readObject, rebuilt}
+use Rattle.audited.specs.Rebuild.{places, idOf, idsOn, readObject, rebuilt}
 use Rattle.refinement.specs.Laws.Tags.{tag-same}
-use Rattle.refinement.specs.Laws.RebuildObjects.{wordsAt, on-page}
-use Rattle.refinement.specs.Laws.RebuildIds.{header, places-length, spot-at, object-at, stands-at, apart-at, alive-at, id-at}
-use Rattle.refinement.specs.Laws.RebuildRegions as region
-use Rattle.refinement.specs.Laws.RebuildTree.{regions-agree}
-use Rattle.refinement.specs.Laws.RebuildPages.{pages-all, held, taken-sum, full}
-use Rattle.refinement.specs.Laws.RebuildLaid.{words-length, alive-index, laid}
+use Rattle.audited.specs.Laws.RebuildObjects.{wordsAt, on-page}
+use Rattle.audited.specs.Laws.RebuildIds.{header, places-length, spot-at, object-at, stands-at, apart-at, alive-at, id-at}
+use Rattle.audited.specs.Laws.RebuildRegions as region
+use Rattle.audited.specs.Laws.RebuildTree.{regions-agree}
+use Rattle.audited.specs.Laws.RebuildPages.{pages-all, held, taken-sum, full}
+use Rattle.audited.specs.Laws.RebuildLaid.{words-length, alive-index, laid}
 
 -- a header met on a page is one of those listed
 met-index : (S : Store) (j : ℕ) → j < pageCount (pages S) → All (λ q. (i : ℕ) × (i < length (headers S)) × (header S i ≡ q)) (headersOf S j)
@@ -59,7 +59,7 @@ module _ (S : Store) (sh : Shaped S) (so : Sound S) where
   tiles-on j h = all-map (λ q t. subst Tile (t .2) (tile (t .0) (t .1))) (headersOf S j) (met-index S j (omega (arith, pages-all S sh so)))
 
   tiles-walk : (n a e : ℕ) → All Tile (walk (kinds S) (S .heap) n a e)
-      → Tiles (rebuilt S) (places S) a (a + sum (λ q. 1 + wordsAt S q) (walk (kinds S) (S .heap) n a e)) (map id (walk (kinds S) (S .heap) n a e))
+      → Tiles (rebuilt S) (places S) a (a + sumOf (λ q. 1 + wordsAt S q) (walk (kinds S) (S .heap) n a e)) (map id (walk (kinds S) (S .heap) n a e))
   unfolding walk
   tiles-walk zero a e t = omega arith
   tiles-walk (suc n) a e t = go (ltb 0 (wordsAt S a) && leb (a + 1 + wordsAt S a) e) t (tiles-walk n (a + 1 + wordsAt S a) e)
@@ -68,11 +68,11 @@ module _ (S : Store) (sh : Shaped S) (so : Sound S) where
       rest = walk (kinds S) (S .heap) n (a + 1 + wordsAt S a) e
 
       go : (b : Bool) → All Tile (pick b (a ∷ rest) [])
-          → (All Tile rest → Tiles (rebuilt S) (places S) (a + 1 + wordsAt S a) (a + 1 + wordsAt S a + sum (λ q. 1 + wordsAt S q) rest) (map id rest))
-          → Tiles (rebuilt S) (places S) a (a + sum (λ q. 1 + wordsAt S q) (pick b (a ∷ rest) [])) (map id (pick b (a ∷ rest) []))
+          → (All Tile rest → Tiles (rebuilt S) (places S) (a + 1 + wordsAt S a) (a + 1 + wordsAt S a + sumOf (λ q. 1 + wordsAt S q) rest) (map id rest))
+          → Tiles (rebuilt S) (places S) a (a + sumOf (λ q. 1 + wordsAt S q) (pick b (a ∷ rest) [])) (map id (pick b (a ∷ rest) []))
       go false t ih = omega arith
       go true t ih =
-          let e : a + 1 + wordsAt S a + sum (λ q. 1 + wordsAt S q) rest ≡ a + (1 + wordsAt S a + sum (λ q. 1 + wordsAt S q) rest) = omega arith in
+          let e : a + 1 + wordsAt S a + sumOf (λ q. 1 + wordsAt S q) rest ≡ a + (1 + wordsAt S a + sumOf (λ q. 1 + wordsAt S q) rest) = omega arith in
           (t .0 .spot, t .0 .alive, rw (t .0 .words, ← e) (ih (t .1)))
 
   on-held : (j : ℕ) → j < (pages S) .made → ownerAt (pages S) j ≢ 0 → headersOf S j ≡ headersOn (kinds S) (S .heap) (pages S) j
@@ -92,7 +92,7 @@ module _ (S : Store) (sh : Shaped S) (so : Sound S) where
 
   -- whatever is added up over the objects of page j, if region r holds it
   page-sum : (r : ℕ) → livesIn (rebuilt S) r ≡ true → (f : ℕ → ℕ) (j : ℕ) → j < (pages S) .made
-      → sum (λ q. pick (eqb (holderOf S (q / 64)) r) (f (id q)) 0) (headersOf S j) ≡ pick (eqb (ownerAt (pages S) j) (tagOf (regions S) r)) (sum f (idsOn S j)) 0
+      → sumOf (λ q. pick (eqb (holderOf S (q / 64)) r) (f (id q)) 0) (headersOf S j) ≡ pick (eqb (ownerAt (pages S) j) (tagOf (regions S) r)) (sumOf f (idsOn S j)) 0
   unfolding idsOn
   page-sum r l f j h = by-test (eqb (holderOf S j) 0)
       (λ e. rw e (sym (pick-same {A = ℕ} (eqb (ownerAt (pages S) j) (tagOf (regions S) r)) 0)))
@@ -106,14 +106,14 @@ module _ (S : Store) (sh : Shaped S) (so : Sound S) where
       ∙ ap (λ n. pick (eqb (holderOf S j) r) n 0) (sym (sum-map f id (headersOn (kinds S) (S .heap) (pages S) j)))))
 
   once : (r : ℕ) → livesIn (rebuilt S) r ≡ true → (f : ℕ → ℕ)
-      → sum (λ j. pick (eqb (ownerAt (pages S) j) (tagOf (regions S) r)) (sum f (idsOn S j)) 0) (upTo ((pages S) .made)) ≡ sum (λ q. pick (eqb (homeIn (rebuilt S) q) r) (f q) 0) (idsIn (rebuilt S))
+      → sumOf (λ j. pick (eqb (ownerAt (pages S) j) (tagOf (regions S) r)) (sumOf f (idsOn S j)) 0) (upTo ((pages S) .made)) ≡ sumOf (λ q. pick (eqb (homeIn (rebuilt S) q) r) (f q) 0) (idsIn (rebuilt S))
   once r l f = sym (
       sum-later (λ q. pick (eqb (homeIn (rebuilt S) q) r) (f q) 0) 0 (length ((rebuilt S) .objects))
-      ∙ ap (λ n. sum (λ i. pick (eqb (homeIn (rebuilt S) (suc i)) r) (f (suc i)) 0) (upTo n)) objects-length
+      ∙ ap (λ n. sumOf (λ i. pick (eqb (homeIn (rebuilt S) (suc i)) r) (f (suc i)) 0) (upTo n)) objects-length
       ∙ sum-below _ (λ i. at (header S i)) (length (headers S)) (λ i h. ap₂ (λ x y. pick (eqb x r) (f y) 0) (home-of i h) (sym (id-at S i h)))
       ∙ sum-places at (headers S) 0
       ∙ sum-joined at (headersOf S) (upTo (pageCount (pages S)))
-      ∙ ap (λ n. sum (λ j. sum at (headersOf S j)) (upTo n)) (pages-all S sh so)
+      ∙ ap (λ n. sumOf (λ j. sumOf at (headersOf S j)) (upTo n)) (pages-all S sh so)
       ∙ sum-below _ _ ((pages S) .made) (page-sum r l f))
     where
       at : ℕ → ℕ

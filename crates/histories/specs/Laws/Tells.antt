@@ -8,7 +8,7 @@ use native.Mathlib.Omega.{arith}
 use lib.Dec.{eqb, ltb}
 use lib.ListN.{length, length-map}
 use borrow.Author.Tests.{eq-eqb, ne-eqb, not-false}
-use Rattle.lists.specs.Lists.{bit, pick, every, sum, count, from}
+use Rattle.lists.specs.Lists.{bit, pick, every, sumOf, countOf, from}
 use Rattle.lists.specs.Laws.Tests.{by-test, bit-zero, or-right}
 use Rattle.lists.specs.Laws.All.{all-map}
 use Rattle.lists.specs.Laws.Sums.{sum-zero, sum-nothing}
@@ -37,11 +37,11 @@ pub record Tells (L : Model) (sp : List ℕ) (h : History) : Type 0 where
   pub kinds : h .kinds ≡ L .kinds
   pub frames : h .frames ≡ map length (L .frames)
   pub counted : h .counted ≡ L .counted
-  pub regions : (f : history.Region → ℕ) → sum f (h .regions) ≡ sum (λ g. f (listed g)) (L .regions)
-  pub objects : (f : history.Object → ℕ) → sum f (h .objects) ≡ sum (λ q. pick (livesIn L (homeIn L q)) (f (met L sp q)) 0) (idsIn L)
+  pub regions : (f : history.Region → ℕ) → sumOf f (h .regions) ≡ sumOf (λ g. f (listed g)) (L .regions)
+  pub objects : (f : history.Object → ℕ) → sumOf f (h .objects) ≡ sumOf (λ q. pick (livesIn L (homeIn L q)) (f (met L sp q)) 0) (idsIn L)
 
 -- one of the numbers 1 to n
-sum-at : (f : ℕ → ℕ) (n q : ℕ) → 1 ≤ q → q ≤ n → sum (λ x. pick (eqb x q) (f x) 0) (from 1 n) ≡ f q
+sum-at : (f : ℕ → ℕ) (n q : ℕ) → 1 ≤ q → q ≤ n → sumOf (λ x. pick (eqb x q) (f x) 0) (from 1 n) ≡ f q
 sum-at f n q a b =
     let here : pick (eqb q q) (f q) 0 ≡ f q = rw (eq-eqb q q refl) in
     let null : pick (eqb 0 q) (f 0) 0 ≡ 0 = rw (ne-eqb 0 q (λ e. omega arith)) in
@@ -84,8 +84,8 @@ module _ {L : Model} {sp : List ℕ} {h : History} (t : Tells L sp h) where
       alive-known q l = or-right (eqb q 0) (livesIn L (homeIn L q)) l
 
       -- only one object stands at the pointer of a live object
-      only : (q : ℕ) → Alive L q → (f : history.Object → ℕ) → sum (λ o. pick (at (spot sp q) o) (f o) 0) (h .objects) ≡ f (met L sp q)
-      only q l f = t .objects (λ o. pick (at (spot sp q) o) (f o) 0) ∙ ap (λ k. sum k (idsIn L)) (fun-ext each) ∙ sum-at (λ x. f (met L sp x)) (length (L .objects)) q (some q (a .laid q l .placed)) (in-list L v q l)
+      only : (q : ℕ) → Alive L q → (f : history.Object → ℕ) → sumOf (λ o. pick (at (spot sp q) o) (f o) 0) (h .objects) ≡ f (met L sp q)
+      only q l f = t .objects (λ o. pick (at (spot sp q) o) (f o) 0) ∙ ap (λ k. sumOf k (idsIn L)) (fun-ext each) ∙ sum-at (λ x. f (met L sp x)) (length (L .objects)) q (some q (a .laid q l .placed)) (in-list L v q l)
         where
           some : (q : ℕ) → 1 ≤ spot sp q → 1 ≤ q
           some zero k = absurd (omega arith)
@@ -96,8 +96,8 @@ module _ {L : Model} {sp : List ℕ} {h : History} (t : Tells L sp h) where
               (λ m. let e : spot sp x - 1 + 1 ≡ spot sp x = omega (arith, a .laid x m .placed) in rw (m, e, spot-same a x q (alive-known x m) (alive-known q l)))
               (λ m. rw (m, ne-eqb x q (λ e. false≢true (sym m ∙ ap (λ x. livesIn L (homeIn L x)) e ∙ l))))
 
-      one : (q : ℕ) → Alive L q → count (at (spot sp q)) (h .objects) ≡ 1
-      one q l = ap (λ k. sum k (h .objects)) (fun-ext (λ o. pick-bit (at (spot sp q) o))) ∙ only q l (λ o. 1)
+      one : (q : ℕ) → Alive L q → countOf (at (spot sp q)) (h .objects) ≡ 1
+      one q l = ap (λ k. sumOf k (h .objects)) (fun-ext (λ o. pick-bit (at (spot sp q) o))) ∙ only q l (λ o. 1)
 
       pub leads-to : (q : ℕ) → Alive L q → leads h (spot sp q) ≡ true
       unfolding leads

@@ -9,7 +9,7 @@ use native.Mathlib.Omega.{arith}
 use lib.Dec.{eqb, leb}
 use lib.ListN.{length, length-map}
 use borrow.Author.Tests.{eqb-true, eqb-false, eq-eqb, ne-eqb, le-ltb, leb-true, not-true}
-use Rattle.lists.specs.Lists.{bit, All, count, times}
+use Rattle.lists.specs.Lists.{bit, All, countOf, times}
 use Rattle.lists.specs.Laws.Tests.{both}
 use Rattle.lists.specs.Laws.All.{all-map, all-change}
 use Rattle.lists.specs.Laws.Sums.{sum-map}
@@ -23,18 +23,18 @@ use Rattle.outcomes.specs.Store.{Store, regions}
 use Rattle.outcomes.specs.History.{begin, entries, leads, homeOf}
 use Rattle.outcomes.specs.Sound.{Sound, placed, oldestOwn}
 use Rattle.outcomes.specs.Shape.{Shaped}
 use Rattle.refinement.specs.Represents.{tagFor, RegionsAgree}
-use Rattle.refinement.specs.Rebuild.{places, readRegion, rebuilt}
+use Rattle.audited.specs.Rebuild.{places, readRegion, rebuilt}
 use Rattle.refinement.specs.Laws.Tags.{for-some}
-use Rattle.refinement.specs.Laws.RebuildIds.{home-leads, known}
-use Rattle.refinement.specs.Laws.RebuildRegions.{used, each-entry, all-regions, live-used, rows, region-used, tag-name, Read, read}
+use Rattle.audited.specs.Laws.RebuildIds.{home-leads, known}
+use Rattle.audited.specs.Laws.RebuildRegions.{used, each-entry, all-regions, live-used, rows, region-used, tag-name, Read, read}
 
-distinct-few : (gs : List Region) → All (λ g. count (called (g .name)) gs ≤ 1) gs → Distinct gs
+distinct-few : (gs : List Region) → All (λ g. countOf (called (g .name)) gs ≤ 1) gs → Distinct gs
 distinct-few [] h = tt
 distinct-few (g ∷ gs) h = (none, distinct-few gs (all-map (λ x k. omega (arith, k)) gs (h .1)))
   where
     none : live gs (g .name) ≡ false
-    none = any-count (called (g .name)) gs ∙ le-ltb 0 (count (called (g .name)) gs) (omega (arith, h .0, one))
+    none = any-count (called (g .name)) gs ∙ le-ltb 0 (countOf (called (g .name)) gs) (omega (arith, h .0, one))
       where
         one : bit (eqb (g .name) (g .name)) ≡ 1
         one = rw (eq-eqb (g .name) (g .name) refl)
@@ -138,7 +138,7 @@ module _ (S : Store) (sh : Shaped S) (so : Sound S) where
 
   one-lives : live ((rebuilt S) .regions) 1 ≡ true
   unfolding rebuilt readRegion
-  one-lives = any-map (called 1) (readRegion S) (entries S) ∙ sym (any-map (λ x. eqb x 1) (nameAt (regions S)) (entries S)) ∙ so .one
+  one-lives = any-map (called 1) (readRegion S) (entries S) ∙ sym (any-map (λ x. eqb x 1) (nameAt (regions S)) (entries S)) ∙ so .permanent
 
   root : parentOf ((rebuilt S) .regions) 1 ≡ 0
   unfolding readRegion nameOf nameIn
@@ -165,8 +165,8 @@ module _ (S : Store) (sh : Shaped S) (so : Sound S) where
       sum-map (λ g. bit (eqb (g .name) (nameAt (regions S) i))) (readRegion S) (entries S),
     )) (entries S) (every-true _ (entries S) (so .distinct)));
     named = named;
-    past = all-regions S sh (λ g. g .name ≤ (regions S) .given) (λ i h. leb-true (nameAt (regions S) i) ((regions S) .given) (each-entry S sh _ (so .past) i h));
+    namesGiven = all-regions S sh (λ g. g .name ≤ (regions S) .given) (λ i h. leb-true (nameAt (regions S) i) ((regions S) .given) (each-entry S sh _ (so .namesGiven) i h));
     last = leb-true ((regions S) .given) 1000000 (so .given);
-    one = one-lives;
+    permanent = one-lives;
     root = root;
   }

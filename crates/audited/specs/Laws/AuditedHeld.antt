@@ -9,7 +9,7 @@ use native.Mathlib.Omega.{arith}
 use lib.Dec.{eqb, leb}
 use lib.ListN.{length, getD}
 use borrow.Author.Tests.{lt-ltb, le-leb, eqb-false, eq-eqb}
-use Rattle.lists.specs.Lists.{every, sum, upTo}
+use Rattle.lists.specs.Lists.{every, sumOf, upTo}
 use Rattle.lists.specs.Laws.Tests.{by-test}
 use Rattle.lists.specs.Laws.All.{all-map, all-in, all-change}
 use Rattle.lists.specs.Laws.Sums.{sum-map, sum-same}
@@ -25,14 +25,14 @@ use Rattle.outcomes.specs.Store.{Store, kinds, regions, pages}
 use Rattle.outcomes.specs.History.{begin, listedKinds, listedFrames, listedHeld, pagesHeld}
 use Rattle.outcomes.specs.Sound.{within, filled}
 use Rattle.outcomes.specs.Laws.Begin.{holderOf, pages-filled}
 use Rattle.refinement.specs.Represents.{spot, Alive, wordsIn}
 use Rattle.refinement.specs.Laws.Reads.{page-count, kind-count}
 use Rattle.refinement.specs.Laws.Walks.{headers-on, homes-on}
-use Rattle.refinement.specs.Laws.RebuildStack.{is-within}
-use Rattle.refinement.specs.Laws.TellsPages.{begin-pages, pages-held}
-use Rattle.refinement.specs.Laws.AuditedObjects.{Agrees}
-use Rattle.refinement.specs.Laws.AuditedLists.{kinds-are, frames-are, begin-tells}
-use Rattle.refinement.specs.Laws.AuditedPages.{tiles-sum}
+use Rattle.audited.specs.Laws.RebuildStack.{is-within}
+use Rattle.histories.specs.Laws.TellsPages.{begin-pages, pages-held}
+use Rattle.audited.specs.Laws.AuditedObjects.{Agrees}
+use Rattle.audited.specs.Laws.AuditedLists.{kinds-are, frames-are, begin-tells}
+use Rattle.audited.specs.Laws.AuditedPages.{tiles-sum}
 
 module _ {L : Model} {sp : List ℕ} {ids : ℕ → List ℕ} (S : Store) (a : Agrees L sp ids S) where
   -- ---- kinds and frames
@@ -56,8 +56,8 @@ module _ {L : Model} {sp : List ℕ} {ids : ℕ → List ℕ} (S : Store) (a : A
       let l : n < length (L .kinds) = omega (arith, a .onKinds .declared) in
       is-within 1 16 (getD ((kinds S) .sizes) n 0) (size-some n l) (a .onKinds .few n l))
 
-  pub marked : every (every (λ m. leb m 4)) (listedKinds S) ≡ true
-  marked = rw (kinds-are S a) (true-every _ (L .kinds) (all-map (λ ms h. true-every _ ms (all-map (λ m. le-leb m 4) ms h)) (L .kinds) (a .valid .kinds .marks)))
+  pub marksFit : every (every (λ m. leb m 4)) (listedKinds S) ≡ true
+  marksFit = rw (kinds-are S a) (true-every _ (L .kinds) (all-map (λ ms h. true-every _ ms (all-map (λ m. le-leb m 4) ms h)) (L .kinds) (a .valid .kinds .marks)))
 
   pub widths : every (within 1 8) (listedFrames S) ≡ true
   widths = rw (frames-are S a) (true-every (within 1 8) (map length (L .frames)) (all-change _ _ length (λ f h. is-within 1 8 (length f) (h .0) (h .1)) (L .frames) (a .valid .frames .sized)))
@@ -73,12 +73,12 @@ module _ {L : Model} {sp : List ℕ} {ids : ℕ → List ℕ} (S : Store) (a : A
     filling = pages-filled S names ∙ each-every _ (pageCount (pages S)) (λ j h. by-test (eqb (holderOf S j) 0) (λ e. rw e) (λ e.
         rw e (eq-eqb _ (getD ((pages S) .taken) j 0) (fills j (omega (arith, page-count (a .onPages))) (λ z. eqb-false (holderOf S j) 0 e (ap (nameOf (regions S)) z))))))
       where
-        fills : (j : ℕ) → j < (pages S) .made → ownerAt (pages S) j ≢ 0 → sum (λ p. 1 + sizeOf (kinds S) (getD (S .heap) p 0)) (headersOn (kinds S) (S .heap) (pages S) j) ≡ getD ((pages S) .taken) j 0
+        fills : (j : ℕ) → j < (pages S) .made → ownerAt (pages S) j ≢ 0 → sumOf (λ p. 1 + sizeOf (kinds S) (getD (S .heap) p 0)) (headersOn (kinds S) (S .heap) (pages S) j) ≡ getD ((pages S) .taken) j 0
         fills j m o =
             let size : ℕ → ℕ = λ p. 1 + sizeOf (kinds S) (getD (S .heap) p 0) in
             let each : (q : ℕ) → Alive L q → size (spot sp q - 1) ≡ length (wordsIn L q) + 1 = λ q l.
             omega (arith, ap (sizeOf (kinds S)) (a .onObjects .laid q l .header), a .onKinds .sizes ((object (L .objects) q) .kind), object-valid L (a .valid) q l .sized) in
-            ap (sum size) (headers-on L sp ids (regions S) (kinds S) (pages S) (S .heap) (a .valid) (a .onKinds) (a .onObjects) j m o)
+            ap (sumOf size) (headers-on L sp ids (regions S) (kinds S) (pages S) (S .heap) (a .valid) (a .onKinds) (a .onObjects) j m o)
             ∙ sum-map size (λ q. spot sp q - 1) (ids j)
             ∙ sum-same _ _ (ids j) (all-map (λ q h. each q (h .0)) (ids j) (homes-on (a .valid) (a .onObjects) j m o))
             ∙ omega (arith, tiles-sum L sp (64 * j) (64 * j + getD ((pages S) .taken) j 0) (ids j) (a .onObjects .tiled j m o))

@@ -9,7 +9,7 @@ use native.Mathlib.Omega.{arith}
 use lib.Dec.{eqb, ltb, leb}
 use lib.ListN.{length, getD, length-map, List·getD-eq-default}
 use borrow.Author.Tests.{ltb-true, ltb-false, leb-true, leb-false, eqb-true, eqb-false, ne-eqb}
-use Rattle.lists.specs.Lists.{pick, every, find, All}
+use Rattle.lists.specs.Lists.{pick, every, findOr, All}
 use Rattle.lists.specs.Laws.Tests.{by-test, both, or-other, or-known}
 use Rattle.lists.specs.Laws.All.{all-in, all-change}
 use Rattle.lists.specs.Laws.Finds.{every-true}
@@ -26,15 +26,15 @@ use Rattle.outcomes.specs.Sound.{Sound}
 use Rattle.outcomes.specs.Shape.{Shaped}
 use Rattle.outcomes.specs.Laws.Begin.{holderOf, headers, objectAt, begin-objects}
 use Rattle.outcomes.specs.Laws.Pointers.{valueAt, marks-length, marks-at, every-pointer}
 use Rattle.refinement.specs.Represents.{spot, Alive, Laid}
-use Rattle.refinement.specs.Rebuild.{places, idOf, readWord, readObject, readRegion, rebuilt}
+use Rattle.audited.specs.Rebuild.{places, idOf, readWord, readObject, readRegion, rebuilt}
 use Rattle.refinement.specs.Laws.Tags.{zero-dead}
-use Rattle.refinement.specs.Laws.Tells.{listed}
-use Rattle.refinement.specs.Laws.RebuildObjects.{wordsAt}
-use Rattle.refinement.specs.Laws.RebuildIds.{header, spot-at, stands-at, Known, known}
-use Rattle.refinement.specs.Laws.RebuildRegions.{live-name}
-use Rattle.refinement.specs.Laws.RebuildTree.{regions-agree, names-valid}
-use Rattle.refinement.specs.Laws.RebuildPages.{pages-all}
+use Rattle.histories.specs.Laws.Tells.{listed}
+use Rattle.audited.specs.Laws.RebuildObjects.{wordsAt}
+use Rattle.audited.specs.Laws.RebuildIds.{header, spot-at, stands-at, Known, known}
+use Rattle.audited.specs.Laws.RebuildRegions.{live-name}
+use Rattle.audited.specs.Laws.RebuildTree.{regions-agree, names-valid}
+use Rattle.audited.specs.Laws.RebuildPages.{pages-all}
 
 -- of two tests, one of them null
 or-rule : (a b c : Bool) → (a || (b && c)) ≡ true → (a || c) ≡ true
@@ -83,7 +83,7 @@ module _ (S : Store) where
     -- ---- valid
 
     parents-same : (r : ℕ) → parentOf (begin S) r ≡ parentIn (rebuilt S) r
-    parents-same r = ap (λ gs. (find (λ (g : history.Region). eqb (g .name) r) (record { name = 0; parent = 0 }) gs) .parent) begin-regions
+    parents-same r = ap (λ gs. (findOr (λ (g : history.Region). eqb (g .name) r) (record { name = 0; parent = 0 }) gs) .parent) begin-regions
         ∙ ap (λ g. g .parent) (find-map (λ g. eqb (g .name) r) listed noRegion ((rebuilt S) .regions))
 
     word-fine : (i w : ℕ) → i < length (headers S) → w < wordsAt S (header S i)
@@ -114,10 +114,10 @@ module _ (S : Store) where
         let t = stands-at S i h in
         let l = marks-length S (getD (S .heap) q 0) in
         record {
-          past = live-all (λ r. r ≤ (rebuilt S) .given) ((rebuilt S) .regions) (holderOf S (q / 64)) (names-valid S sh so .past) (omega arith) (live-name S sh (ownerAt (pages S) (q / 64)) (t .held));
+          homeGiven = live-all (λ r. r ≤ (rebuilt S) .given) ((rebuilt S) .regions) (holderOf S (q / 64)) (names-valid S sh so .namesGiven) (omega arith) (live-name S sh (ownerAt (pages S) (q / 64)) (t .held));
           kind = marks-few (getD (S .heap) q 0) (omega (arith, l, t .some));
           sized = words-length q ∙ l;
-          marked = λ a. all₂-each _ (marksOf q) ((readObject S q) .words) 0 0 (λ w b c. word-fine i w h (omega (arith, words-length q)));
+          fineWords = λ a. all₂-each _ (marksOf q) ((readObject S q) .words) 0 0 (λ w b c. word-fine i w h (omega (arith, words-length q)));
         }
 
     pub objects-valid : All (ValidObject (livesIn (rebuilt S)) (parentIn (rebuilt S)) (homeIn (rebuilt S)) ((rebuilt S) .kinds) ((rebuilt S) .given)) ((rebuilt S) .objects)

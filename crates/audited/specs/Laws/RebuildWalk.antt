@@ -9,7 +9,7 @@ use native.Mathlib.Omega.{arith}
 use lib.Dec.{ltb, leb}
 use lib.ListN.{length, getD}
 use borrow.Author.Tests.{ltb-true, leb-true}
-use Rattle.lists.specs.Lists.{pick, sum, All, joined, from, upTo}
+use Rattle.lists.specs.Lists.{pick, sumOf, All, joined, from, upTo}
 use Rattle.lists.specs.Laws.Tests.{both}
 use Rattle.lists.specs.Laws.All.{all-map, all-in}
 use Rattle.kinds.specs.declared.Kinds.{Kinds}
@@ -50,7 +50,7 @@ module _ (n : ℕ → ℕ) where
       ((h .0, h .1, stacked-le (q + 1 + n q) e qs (h .2)), all-map (λ r k. (omega (arith, h .0, k .0), k .1, k .2)) qs (stacked-all (q + 1 + n q) e qs (h .2)))
 
   -- with their headers they take at most the words from a to e
-  pub stacked-sum : (a e : ℕ) (qs : List ℕ) → Stacked n a e qs → a + sum (λ q. 1 + n q) qs ≤ e
+  pub stacked-sum : (a e : ℕ) (qs : List ℕ) → Stacked n a e qs → a + sumOf (λ q. 1 + n q) qs ≤ e
   stacked-sum a e [] h = omega (arith, h)
   stacked-sum a e (q ∷ qs) h = omega (arith, h .0, stacked-sum (q + 1 + n q) e qs (h .2))
 

@@ -17,17 +17,17 @@ use Rattle.outcomes.specs.Store.{Store, regions}
 use Rattle.outcomes.specs.History.{begin, storedCount, uncountedInto, outside, countsExact}
 use Rattle.outcomes.specs.Sound.{Sound}
 use Rattle.outcomes.specs.Shape.{Shaped}
 use Rattle.refinement.specs.Represents.{Represents}
-use Rattle.refinement.specs.Rebuild.{places, idsOn, rebuilt}
-use Rattle.refinement.specs.Laws.Tells.{listed}
-use Rattle.refinement.specs.Laws.Pointers.{outside-is, uncounted-is}
-use Rattle.refinement.specs.Laws.RebuildTree.{regions-agree, names-valid, parents-valid, oldest-valid}
-use Rattle.refinement.specs.Laws.RebuildStack.{kinds-agree, kinds-valid, frames-agree, frames-valid}
-use Rattle.refinement.specs.Laws.RebuildPages.{pages-agree}
-use Rattle.refinement.specs.Laws.RebuildLaid.{begin-regions, objects-valid}
-use Rattle.refinement.specs.Laws.RebuildTiles.{objects-agree}
-use Rattle.refinement.specs.Laws.AuditedObjects.{Agrees}
-use Rattle.refinement.specs.Laws.AuditedLists.{begin-tells}
+use Rattle.audited.specs.Rebuild.{places, idsOn, rebuilt}
+use Rattle.histories.specs.Laws.Tells.{listed}
+use Rattle.histories.specs.Laws.Pointers.{outside-is, uncounted-is}
+use Rattle.audited.specs.Laws.RebuildTree.{regions-agree, names-valid, parents-valid, oldest-valid}
+use Rattle.audited.specs.Laws.RebuildStack.{kinds-agree, kinds-valid, frames-agree, frames-valid}
+use Rattle.audited.specs.Laws.RebuildPages.{pages-agree}
+use Rattle.audited.specs.Laws.RebuildLaid.{begin-regions, objects-valid}
+use Rattle.audited.specs.Laws.RebuildTiles.{objects-agree}
+use Rattle.audited.specs.Laws.AuditedObjects.{Agrees}
+use Rattle.audited.specs.Laws.AuditedLists.{begin-tells}
 
 module _ (S : Store) (sh : Shaped S) (so : Sound S) where
   pub rebuilt-valid : Valid (rebuilt S)

@@ -8,7 +8,7 @@ use native.Mathlib.Omega.{arith}
 use lib.Dec.{eqb, ltb}
 use lib.ListN.{length, getD}
 use borrow.Author.Tests.{ltb-true, eqb-true, eqb-false, eq-eqb, ne-eqb}
-use Rattle.lists.specs.Lists.{sum}
+use Rattle.lists.specs.Lists.{sumOf}
 use Rattle.lists.specs.Laws.Tests.{by-test, both, or-other}
 use Rattle.lists.specs.Laws.UpTo.{every-each}
 use Rattle.model.specs.Model.{region}
@@ -19,12 +19,12 @@ use Rattle.outcomes.specs.Store.{Store, kinds, regions, pages}
 use Rattle.outcomes.specs.Sound.{Sound, filled, newestOwn}
 use Rattle.outcomes.specs.Shape.{Shaped}
 use Rattle.outcomes.specs.Laws.Begin.{holderOf, pages-held, pages-filled}
 use Rattle.refinement.specs.Represents.{RoomAgrees, PagesAgree}
-use Rattle.refinement.specs.Rebuild.{roomAt, readRegion, rebuilt}
-use Rattle.refinement.specs.Laws.RebuildWalk.{stacked-sum}
-use Rattle.refinement.specs.Laws.RebuildObjects.{wordsAt, on-stacked}
-use Rattle.refinement.specs.Laws.RebuildStack.{within-is}
-use Rattle.refinement.specs.Laws.RebuildRegions.{each-entry, live-name, tag-name, read}
+use Rattle.audited.specs.Rebuild.{roomAt, readRegion, rebuilt}
+use Rattle.audited.specs.Laws.RebuildWalk.{stacked-sum}
+use Rattle.audited.specs.Laws.RebuildObjects.{wordsAt, on-stacked}
+use Rattle.audited.specs.Laws.RebuildStack.{within-is}
+use Rattle.audited.specs.Laws.RebuildRegions.{each-entry, live-name, tag-name, read}
 
 module _ (S : Store) (sh : Shaped S) (so : Sound S) where
   pages-some : (1 ≤ (pages S) .made) × ((pages S) .made ≤ 256)
@@ -41,7 +41,7 @@ module _ (S : Store) (sh : Shaped S) (so : Sound S) where
       false≢true (rw (ne-eqb (ownerAt (pages S) j) 0 n, eq-eqb (holderOf S j) 0 z) at e)
 
   -- its objects take just the words that are taken
-  pub taken-sum : (j : ℕ) → j < (pages S) .made → ownerAt (pages S) j ≢ 0 → sum (λ q. 1 + wordsAt S q) (headersOn (kinds S) (S .heap) (pages S) j) ≡ getD ((pages S) .taken) j 0
+  pub taken-sum : (j : ℕ) → j < (pages S) .made → ownerAt (pages S) j ≢ 0 → sumOf (λ q. 1 + wordsAt S q) (headersOn (kinds S) (S .heap) (pages S) j) ≡ getD ((pages S) .taken) j 0
   unfolding filled
   taken-sum j h n =
       let e = every-each _ (pageCount (pages S)) (sym (pages-filled S (sh .inRegions .names .0)) ∙ so .filling) j (omega (arith, pages-all)) in
