@@ -16,8 +16,8 @@ use Rattle.outcomes.specs.Store.{Store}
 use Rattle.outcomes.specs.History.{History, Region, Object, begin, isLive, storedCount, uncountedInto, outside, subregions, slotsLead, wordsLead, holders, pagesHeld}
 use Rattle.outcomes.specs.Shape.{Shaped}
 use Rattle.outcomes.specs.Outcome.{Outcome, MakeOutcome}
-use Rattle.outcomes.specs.Promises.{Total, Refusals, LengthFirst, SameLength, OnlyNamed, KeepsShape, AuditExact, Makes, Sent}
-use Rattle.outcomes.specs.Runs.{Event, calls, answers, Run}
+use Rattle.promises.specs.Promises.{Total, Refusals, LengthFirst, SameLength, OnlyNamed, KeepsShape, AuditExact, Makes}
+use Rattle.outcomes.specs.Runs.{Event, calls, answers, Run, Sent}
 use Rattle.demands.specs.Told.{opening, history}
 
 -- Demand 1. That each call is safe, ends and touches only what it is given is the gate's verdict on functions without a `requires`.

@@ -14,8 +14,7 @@ use Rattle.lists.specs.Laws.Finds.{map-append}
 use Rattle.model.specs.Model.{Call, declare, newRegion, subregion, push, dropFrame, handBack, allocate, first, copy, fetch, clear, load, setPointer, put, get, view, same, about, report, totals, audit, delete}
 use Rattle.outcomes.specs.Store.{Store}
 use Rattle.outcomes.specs.Outcome.{Outcome, answerOf}
-use Rattle.outcomes.specs.Promises.{Sent}
-use Rattle.outcomes.specs.Runs.{Event, calls, Run, done, step}
+use Rattle.outcomes.specs.Runs.{Event, calls, Run, done, step, Sent}
 use Rattle.store.specs.Dispatch.{numbered, decoded, DispatchedBy, Dispatched}
 use Rattle.script.specs.declared.Line.{Line}
 use Rattle.script.specs.Script.{front, ofClass, grown, scanned}

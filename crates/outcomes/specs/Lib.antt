@@ -4,6 +4,5 @@ pub mod Sound
 pub mod Outcome
 pub mod Shape
 pub mod Examples
-pub mod Promises
 pub mod Runs
 pub mod Laws

@@ -1,10 +1,11 @@
 -- Lists of calls on one store, with their outcomes: a call starts from what the last one left, also where that was refused (document 01, The calls).
 -- Assumes nothing.
+use mathlib.Core.Path.{_≡_}
 use mathlib.Core.List.{List, [], _∷_, map}
-use Rattle.model.specs.Model.{Answer, Call}
+use Prim.Native.Nat.{ℕ, _<_}
+use Rattle.model.specs.Model.{Answer, Call, put}
 use Rattle.outcomes.specs.Store.{Store}
 use Rattle.outcomes.specs.Outcome.{Outcome}
-use Rattle.outcomes.specs.Promises.{Sent}
 
 -- a call, what it answered, and the store that it left
 pub record Event : Type 0 where
@@ -17,6 +18,10 @@ calls es = map (λ e. e .call) es
 
 abbrev pub answers : List Event → List Answer
 answers es = map (λ e. e .answer) es
+
+-- a call's arguments are u32 numbers. Of them only put's value goes in unchecked, so only of it must that be said
+abbrev pub Sent : Call → Type 0
+Sent c = (s w x : ℕ) → c ≡ put s w x → x < 4294967296
 
 -- a list of calls on S, with their outcomes, that ends in T
 pub data Run : Store → List Event → Store → Type 0 where

@@ -13,11 +13,11 @@ use Rattle.pages.specs.Pages.{pageCount}
 use Rattle.outcomes.specs.History.{begin, entries, listedRegions, listedKinds, listedFrames, listedHeld, listedFree, metOn}
 use Rattle.outcomes.specs.Sound.{Sound}
 use Rattle.outcomes.specs.Outcome.{MakeOutcome, blank, store}
-use Rattle.outcomes.specs.Promises.{Makes, nothing}
-use Rattle.outcomes.specs.Laws.Refused.{total, refusals, audit-exact}
-use Rattle.outcomes.specs.Laws.Length.{length-first}
-use Rattle.outcomes.specs.Laws.Heap.{same-length, only-named}
-use Rattle.outcomes.specs.Laws.Keeps.{keeps-shape}
+use Rattle.promises.specs.Promises.{Makes, nothing}
+use Rattle.promises.specs.Laws.Refused.{total, refusals, audit-exact}
+use Rattle.promises.specs.Laws.Length.{length-first}
+use Rattle.promises.specs.Laws.Heap.{same-length, only-named}
+use Rattle.promises.specs.Laws.Keeps.{keeps-shape}
 use Rattle.audited.specs.Laws.Audited.{audited}
 use Rattle.demands.specs.Demands.{Demand1}
 use Rattle.demands.specs.Laws.Demand2.{made-good}

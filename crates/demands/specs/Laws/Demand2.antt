@@ -11,8 +11,8 @@ use Rattle.model.specs.Laws.Next.{fresh-valid}
 use Rattle.model.specs.Laws.Paged.{fresh-paged}
 use Rattle.outcomes.specs.Store.{Store}
 use Rattle.outcomes.specs.Outcome.{MakeOutcome}
-use Rattle.outcomes.specs.Promises.{AuditExact}
-use Rattle.outcomes.specs.Laws.Refused.{audit-exact}
+use Rattle.promises.specs.Promises.{AuditExact}
+use Rattle.promises.specs.Laws.Refused.{audit-exact}
 use Rattle.audited.specs.Rebuild.{rebuilt}
 use Rattle.refinement.specs.Laws.Fresh.{make-pages, make-answers, make-represents, make-shaped}
 use Rattle.audited.specs.Laws.Good.{Good, audited-good}

@@ -14,8 +14,8 @@ use Rattle.model.specs.Laws.Paged.{outside-bound}
 use Rattle.outcomes.specs.Store.{Store, regions, pages}
 use Rattle.outcomes.specs.History.{History, begin}
 use Rattle.outcomes.specs.Outcome.{MakeOutcome}
-use Rattle.outcomes.specs.Promises.{Total, AuditExact}
-use Rattle.outcomes.specs.Laws.Refused.{total, audit-exact}
+use Rattle.promises.specs.Promises.{Total, AuditExact}
+use Rattle.promises.specs.Laws.Refused.{total, audit-exact}
 use Rattle.outcomes.specs.Runs.{calls, done, step}
 use Rattle.audited.specs.Rebuild.{places, rebuilt}
 use Rattle.refinement.specs.Laws.Fresh.{make-pages}

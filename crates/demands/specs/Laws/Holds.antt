@@ -16,8 +16,8 @@ use Rattle.outcomes.specs.Store.{Store, regions, pages}
 use Rattle.outcomes.specs.History.{History, storedCount, subregions}
 use Rattle.outcomes.specs.History as history
 use Rattle.outcomes.specs.Outcome.{Accepted, Answered, Outcome}
-use Rattle.outcomes.specs.Promises.{Refusals}
-use Rattle.outcomes.specs.Laws.Refused.{refusals}
+use Rattle.promises.specs.Promises.{Refusals}
+use Rattle.promises.specs.Laws.Refused.{refusals}
 use Rattle.refinement.specs.Represents.{Represents}
 use Rattle.refinement.specs.Laws.Report as report
 use Rattle.refinement.specs.Laws.Refusals.{refusals-agree}

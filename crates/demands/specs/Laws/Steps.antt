@@ -26,11 +26,11 @@ use Rattle.outcomes.specs.Store.{Store, frames, regions, pages, roomy, size}
 use Rattle.outcomes.specs.History.{History, begin}
 use Rattle.outcomes.specs.Shape.{Shaped}
 use Rattle.outcomes.specs.Outcome.{Chosen, allocated, fillSlot, popFrame, pointed, writeWord, recounted, deleted, Accepted, Answered, Outcome, refusal as storeRefusal}
-use Rattle.outcomes.specs.Promises.{Refusals, KeepsShape, Sent}
-use Rattle.outcomes.specs.Laws.Keeps.{keeps-shape}
-use Rattle.outcomes.specs.Laws.Refused.{refusals}
+use Rattle.promises.specs.Promises.{Refusals, KeepsShape}
+use Rattle.promises.specs.Laws.Keeps.{keeps-shape}
+use Rattle.promises.specs.Laws.Refused.{refusals}
 use Rattle.refinement.specs.Represents.{Represents}
-use Rattle.outcomes.specs.Runs.{Event, calls, answers, Run, done, step}
+use Rattle.outcomes.specs.Runs.{Event, calls, answers, Run, done, step, Sent}
 use Rattle.refinement.specs.Laws.Tags.{unused-free}
 use Rattle.refinement.specs.Laws.Reads.{top-frame, frame-small}
 use Rattle.refinement.specs.Laws.Refusals.{refusals-agree}

@@ -13,11 +13,11 @@ use Rattle.lists.specs.Laws.Tests.{both}
 use Rattle.model.specs.Model.{Call, declare, newRegion, subregion, push, dropFrame, handBack, allocate, first, copy, fetch, clear, load, setPointer, put, get, view, same, about, report, totals, audit, delete}
 use Rattle.model.specs.Calls.{reason, _yields_}
 use Rattle.pages.specs.Pages.{wrongLength, wrongLengthIn}
 use Rattle.outcomes.specs.Store.{Store, pages}
 use Rattle.outcomes.specs.Sound.{Sound}
 use Rattle.outcomes.specs.Outcome.{Outcome, Answered, badLength, checks, refusal}
-use Rattle.outcomes.specs.Promises.{LengthFirst, Refusals}
-use Rattle.outcomes.specs.Laws.Refused.{refusals}
+use Rattle.promises.specs.Promises.{LengthFirst, Refusals}
+use Rattle.promises.specs.Laws.Refused.{refusals}
 
 -- 21 comes first, and with no other test
 other : Bool × ℕ → Bool

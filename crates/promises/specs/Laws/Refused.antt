@@ -16,12 +16,12 @@ use Rattle.model.specs.Model.{Answer, Call, declare, newRegion, subregion, push
 use Rattle.regions.specs.Regions.{newestAt, entryOf}
 use Rattle.pages.specs.declared.Pages.{Pages}
 use Rattle.pages.specs.Pages.{pageCount, ownerAt, isFree, pagesOf, pagesIn, takenAt}
 use Rattle.outcomes.specs.Store.{Store, regions, pages, roomy, size, roomyIn}
 use Rattle.outcomes.specs.Sound.{Sound}
 use Rattle.outcomes.specs.Outcome.{Outcome, Accepted, Answered, Audited, Chosen, checks, refusal}
-use Rattle.outcomes.specs.Promises.{Total, Refusals, AuditExact}
+use Rattle.promises.specs.Promises.{Total, Refusals, AuditExact}
 use Rattle.outcomes.specs.Laws.Decided.{sound-or-not}
-use Rattle.outcomes.specs.Laws.Passed.{passed}
+use Rattle.promises.specs.Laws.Passed.{passed}
 
 -- ---- the audit
 

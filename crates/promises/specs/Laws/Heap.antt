@@ -14,9 +14,9 @@ use Rattle.lists.specs.Laws.Sets.{getD-sets-out}
 use Rattle.model.specs.Model.{Answer, Call, declare, newRegion, subregion, push, dropFrame, handBack, allocate, first, copy, fetch, clear, load, setPointer, put, get, view, same, about, report, totals, audit, delete}
 use Rattle.kinds.specs.Kinds.{sizeOf}
 use Rattle.regions.specs.Regions.{entryOf}
 use Rattle.outcomes.specs.Store.{Store, kinds, regions, slot, size}
 use Rattle.outcomes.specs.Outcome.{Outcome, Accepted, Answered, refusal, startOn, allocated, fillSlot, writeWord, recounted, pointed, popFrame, deleted}
-use Rattle.outcomes.specs.Promises.{SameLength, Named, OnlyNamed}
+use Rattle.promises.specs.Promises.{SameLength, Named, OnlyNamed}
 
 -- what an accepted call writes: the values vs from place p on, each of them a word that the call names
 wrote : (c : Call) (S : Store) (a : Answer) (T : Store) → refusal S c ≡ 0 → Accepted c S a T

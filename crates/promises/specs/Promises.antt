@@ -10,11 +10,12 @@ use Rattle.lists.specs.Lists.{All}
 use Rattle.model.specs.Model.{Answer, Call, declare, newRegion, subregion, push, dropFrame, handBack, allocate, first, copy, fetch, clear, load, setPointer, put, get, view, same, about, report, totals, audit, delete, gives, refusedBy}
 use Rattle.model.specs.Calls.{makes}
 use Rattle.regions.specs.Regions.{entryOf}
 use Rattle.outcomes.specs.Store.{Store, regions, slot, size}
 use Rattle.outcomes.specs.History.{History, begin}
 use Rattle.outcomes.specs.Sound.{Sound}
 use Rattle.outcomes.specs.Shape.{Shaped}
+use Rattle.outcomes.specs.Runs.{Sent}
 use Rattle.outcomes.specs.Outcome.{Outcome, MakeOutcome, refusal, badLength, store, startOn, allocated}
 
 -- every call has an outcome on every memory
 unfoldable pub Total : Type 0
@@ -67,10 +68,6 @@ unfoldable pub OnlyNamed : Type 0
 OnlyNamed =
     (c : Call) (S : Store) (a : Answer) (T : Store) → Outcome c S a T
     → (p : ℕ) → (getD (T .heap) p 0 ≡ getD (S .heap) p 0) ⊎ Named c S T p
-
--- a call's arguments are u32 numbers. Of them only put's value goes in unchecked, so only of it must that be said
-abbrev pub Sent : Call → Type 0
-Sent c = (s w x : ℕ) → c ≡ put s w x → x < 4294967296
 
 -- an outcome is a value of the language's types: numbers stay below their width.
 unfoldable pub KeepsShape : Type 0

@@ -22,15 +22,15 @@ use Rattle.regions.specs.declared.Regions.{Regions}
 use Rattle.regions.specs.Regions.{entryOf, tagOf, isLive, newestAt, oldestAt, levelAt}
 use Rattle.pages.specs.declared.Pages.{Pages}
 use Rattle.pages.specs.Pages.{pageCount, isFree, takenAt}
 use Rattle.outcomes.specs.Store.{Store, frames, kinds, regions, pages, slot, size, roomy, roomyIn}
 use Rattle.outcomes.specs.Sound.{Sound}
 use Rattle.outcomes.specs.Shape.{FramesShaped, KindsShaped, RegionsShaped, PagesShaped, Shaped}
 use Rattle.outcomes.specs.Outcome.{Outcome, Accepted, Answered, Audited, Chosen, refusal, checks, dead, namesOut, withFrames, withKinds, withRegions, withPages, withHeap, fillSlot, writeWord, recounted, pointed, popFrame, allocated, outgoing, newlyCounted, deleted}
-use Rattle.outcomes.specs.Promises.{KeepsShape}
+use Rattle.promises.specs.Promises.{KeepsShape}
 use Rattle.outcomes.specs.Laws.Decided.{sound-or-not}
-use Rattle.outcomes.specs.Laws.Passed.{passed}
+use Rattle.promises.specs.Laws.Passed.{passed}
 use Rattle.outcomes.specs.Laws.Shaped.{array-at, all-sets, pick-below, slot-below, put-slot, push-frame, pop-frame, raise-mark, with-kind, with-region, without-region, with-page, recount-shaped, with-taken, free-pages}
 use Rattle.outcomes.specs.Laws.Values.{size-most, outside-below, word-below, kind-below, live-below, subregions-below, pages-below, name-below, count-below, oldest-below}
 
 abbrev Small : List ℕ → Type 0
 Small l = All (λ x. x < 4294967296) l
