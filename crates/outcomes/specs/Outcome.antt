@@ -3,7 +3,7 @@
 -- Assumes nothing.
 use mathlib.Core.Path.{_≡_}
 use mathlib.Core.Bool.{Bool, true, false, not, _&&_, _||_}
-use mathlib.Core.List.{List, [], _∷_}
+use mathlib.Core.List.{List, [], _∷_, map}
 use Prim.Native.Nat.{ℕ, zero, suc, _+_, _-_, _*_, _/_}
 use lib.Dec.{eqb, ltb, leb}
 use lib.ListN.{length, set, take, drop, replicate}
@@ -16,7 +16,7 @@ use Rattle.frames.specs.Frames.{frameCountIn, topFrame, widthAt, slotAt, putSlo
 use Rattle.kinds.specs.declared.Kinds.{Kinds}
 use Rattle.kinds.specs.Kinds.{kindCount, sizeOf, withKind, wrongMarks, allData as onlyData}
 use Rattle.regions.specs.declared.Regions.{Regions}
-use Rattle.regions.specs.Regions.{nameOf, entryOf, tagOf, isLive, liveCount, subregionsOf, levelAt, newestAt, oldestAt, countAt, unused, withRegion, withoutRegion, withPage, recount}
+use Rattle.regions.specs.Regions.{nameOf, entryOf, tagOf, isLive, liveCount, subregionsOf, levelAt, newestAt, oldestAt, countAt, unused, withRegion, withoutRegions, withPage, recount}
 use Rattle.pages.specs.declared.Pages.{Pages}
 use Rattle.pages.specs.Pages.{wrongLength, takenAt, ownerOf, isFree, pagesOf, withTaken, freed}
 use Rattle.objects.specs.Objects.{kindOf, wordCount, markOf, wordAt, freeWordsOf, outOf}
@@ -167,9 +167,9 @@ allocated S s i k j =
     let U = withPages T (withTaken (pages S) j (i + 1) (start + size S k)) in
     fillSlot (withRegions U (withPage (regions S) i (j + 1) (pick (eqb o 0) v o))) s v
 
--- the regions that the words marked 1 on the pages of the region with tag t lead into, but for that region itself
-unfoldable pub outgoing : Store → ℕ → List ℕ
-outgoing S t = outOf ((pages S) .owners) t (freeWordsOf (kinds S) (S .heap) (pages S) t)
+-- the regions that the words marked 1 on the pages of the regions with the tags ts lead into, but for each region itself
+unfoldable pub outgoing : Store → List ℕ → List ℕ
+outgoing S ts = joined (λ t. outOf ((pages S) .owners) t (freeWordsOf (kinds S) (S .heap) (pages S) t)) ts
 
 -- the regions that the slots of the frames lead into that are counted once m is raised: those below the top that were not; by the lists alone, and in a store
 unfoldable pub newlyIn : ℕ → ℕ → List ℕ → List ℕ → List ℕ → List ℕ
@@ -178,13 +178,14 @@ newlyIn standing counted widths slots owners = joined (targetsIn widths slots ow
 unfoldable pub newlyCounted : Store → List ℕ
 newlyCounted S = let f = frames S in newlyIn (f .standing) (f .counted) (f .widths) (f .slots) ((pages S) .owners)
 
--- the outgoing pointers leave the counts, those newly counted enter them, the pages are free, the entry is given up, m is raised; the heap stays (document 01, Delete)
-unfoldable pub deleted : Store → ℕ → Store
-deleted S r =
-    let t = tagOf (regions S) r in
-    let T = recounted S (newlyCounted S) (outgoing S t) in
-    let U = withRegions T (withoutRegion (regions T) (entryOf (regions S) r)) in
-    withFrames (withPages U (freed (pages S) t)) (raised (frames S))
+-- the regions named rs go: their outgoing pointers leave the counts, those newly counted enter them, the pages are free, the entries are given up, m is raised; the heap stays
+-- (document 01, Delete, where it is one region)
+unfoldable pub deleted : Store → List ℕ → Store
+deleted S rs =
+    let ts = map (tagOf (regions S)) rs in
+    let T = recounted S (newlyCounted S) (outgoing S ts) in
+    let U = withRegions T (withoutRegions (regions T) (map (entryOf (regions S)) rs)) in
+    withFrames (withPages U (freed (pages S) ts)) (raised (frames S))
 
 -- ---- what a call gives and leaves
 
@@ -233,7 +234,7 @@ Accepted (report r) S a T =
     Leaves a (gives (countAt (regions S) i ∷ outsideOf S i ∷ pagesOf (pages S) t ∷ subregionsOf (regions S) t ∷ [])) T S
 Accepted totals S a T = Leaves a (gives (pagesOf (pages S) 0 ∷ liveCount (regions S) ∷ (frames S) .standing ∷ (frames S) .counted ∷ [])) T S
 Accepted audit S a T = Audited S a × (T ≡ S)
-Accepted (delete r) S a T = Leaves a (gives (pagesOf (pages S) (tagOf (regions S) r) ∷ [])) T (deleted S r)
+Accepted (delete r) S a T = Leaves a (gives (pagesOf (pages S) (tagOf (regions S) r) ∷ [])) T (deleted S (r ∷ []))
 
 -- a refused call answers its number and zeros, and leaves every word as it was
 abbrev pub Answered : ℕ → Call → Store → Answer → Store → Type 0

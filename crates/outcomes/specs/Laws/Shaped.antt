@@ -8,7 +8,7 @@ use native.Mathlib.Omega.{arith}
 use lib.Dec.{eqb, ltb}
 use lib.ListN.{length, getD, set, replicate, length-set, length-replicate}
 use lib.Seq.{sets, length-sets}
-use Rattle.lists.specs.Lists.{pick, All, upTo, times}
+use Rattle.lists.specs.Lists.{pick, All, upTo, times, among}
 use Rattle.lists.specs.Laws.All.{all-map, all-at, all-set, all-replicate, all-change}
 use Rattle.lists.specs.Laws.UpTo.{length-map-upTo, all-upTo}
 use Rattle.frames.specs.declared.Frames.{Frames}
@@ -16,7 +16,7 @@ use Rattle.frames.specs.Frames.{topFrame, slotAt, putSlot, pushed, uncountsIn, 
 use Rattle.kinds.specs.declared.Kinds.{Kinds}
 use Rattle.kinds.specs.Kinds.{withKind}
 use Rattle.regions.specs.declared.Regions.{Regions}
-use Rattle.regions.specs.Regions.{countAt, rolled, moved, withRegion, withoutRegion, withPage, withCounts, recount}
+use Rattle.regions.specs.Regions.{countAt, rolled, moved, withRegion, clearedAt, withoutRegions, withPage, withCounts, recount}
 use Rattle.regions.specs.Laws.Added.{count-new}
 use Rattle.pages.specs.declared.Pages.{Pages}
 use Rattle.pages.specs.Pages.{pageCount, ownerAt, withTaken, freed, ownersTo}
@@ -104,17 +104,21 @@ module _ (r : Regions) (h : RegionsShaped r) where
   pub none-counted : (i t l : ℕ) → i < 64 → countAt (withRegion r i t l) i ≡ 0
   none-counted i t l b = count-new r i t l (omega (arith, h .counts .0))
 
-  pub without-region : (i : ℕ) → RegionsShaped (withoutRegion r i)
-  unfolding withoutRegion
-  without-region i = record {
+  pub without-regions : (es : List ℕ) → RegionsShaped (withoutRegions r es)
+  unfolding withoutRegions
+  without-regions es = record {
     given = h .given;
-    names = array-set 64 4294967296 (r .names) (h .names) i 0 (omega arith);
+    names = cleared es;
     parents = h .parents;
     levels = h .levels;
     counts = h .counts;
     newest = h .newest;
     oldest = h .oldest;
   }
+    where
+      cleared : (es : List ℕ) → Array 64 4294967296 (clearedAt (r .names) es)
+      cleared [] = h .names
+      cleared (e ∷ es) = array-set 64 4294967296 (clearedAt (r .names) es) (cleared es) e 0 (omega arith)
 
   pub with-page : (i p v : ℕ) → p < 65536 → v < 4294967296 → RegionsShaped (withPage r i p v)
   unfolding withPage
@@ -145,12 +149,12 @@ module _ (p : Pages) (h : PagesShaped p) where
   unfolding withTaken
   with-taken j t n x y = record { made = h .made; owners = array-set 256 256 (p .owners) (h .owners) j t x; taken = array-set 256 256 (p .taken) (h .taken) j n y }
 
-  pub free-pages : (t : ℕ) → PagesShaped (freed p t)
+  pub free-pages : (ts : List ℕ) → PagesShaped (freed p ts)
   unfolding freed ownerAt ownersTo
-  free-pages t = record {
+  free-pages ts = record {
     made = h .made;
-    owners = array-map 256 256 (λ j. pick (ltb j (pageCount p) && eqb (getD (p .owners) j 0) t) 0 (getD (p .owners) j 0))
-        (λ j. pick-below (ltb j (pageCount p) && eqb (getD (p .owners) j 0) t) 0 (getD (p .owners) j 0) 256 (omega arith) (array-at 256 256 (p .owners) (h .owners) j (omega arith)));
+    owners = array-map 256 256 (λ j. pick (ltb j (pageCount p) && among (getD (p .owners) j 0) ts) 0 (getD (p .owners) j 0))
+        (λ j. pick-below (ltb j (pageCount p) && among (getD (p .owners) j 0) ts) 0 (getD (p .owners) j 0) 256 (omega arith) (array-at 256 256 (p .owners) (h .owners) j (omega arith)));
     taken = h .taken;
   }
 

@@ -3,7 +3,7 @@
 use mathlib.Core.Path.{_≡_, refl, sym, subst⁻¹}
 use mathlib.Core.Logic.{_⊎_, inl, inr}
 use mathlib.Core.Bool.{Bool, true, false, not, _||_, true≢false}
-use mathlib.Core.List.{List, [], _∷_}
+use mathlib.Core.List.{List, [], _∷_, map}
 use Prim.Native.Nat.{ℕ, zero, suc, _+_, _-_, _*_, _≤_, _<_, min}
 use native.Mathlib.Omega.{arith}
 use lib.Dec.{eqb, ltb, leb}
@@ -29,7 +29,7 @@ use Rattle.outcomes.specs.Outcome.{Outcome, Accepted, Answered, Audited, Chosen
 use Rattle.promises.specs.Promises.{KeepsShape}
 use Rattle.outcomes.specs.Laws.Decided.{sound-or-not}
 use Rattle.promises.specs.Laws.Passed.{passed}
-use Rattle.outcomes.specs.Laws.Shaped.{array-at, all-sets, pick-below, slot-below, put-slot, push-frame, pop-frame, raise-mark, with-kind, with-region, without-region, with-page, recount-shaped, with-taken, free-pages}
+use Rattle.outcomes.specs.Laws.Shaped.{array-at, all-sets, pick-below, slot-below, put-slot, push-frame, pop-frame, raise-mark, with-kind, with-region, without-regions, with-page, recount-shaped, with-taken, free-pages}
 use Rattle.outcomes.specs.Laws.Values.{size-most, outside-below, word-below, kind-below, live-below, subregions-below, pages-below, name-below, count-below, oldest-below}
 
 abbrev Small : List ℕ → Type 0
@@ -85,13 +85,14 @@ module _ (S : Store) (h : Shaped S) where
   unfolding popFrame
   popped-shape = with-frames-shaped _ (recounted-shape [] _) _ (pop-frame (frames S) (h .inFrames))
 
-  deleted-shape : (r : ℕ) → Shaped (deleted S r)
+  deleted-shape : (rs : List ℕ) → Shaped (deleted S rs)
   unfolding deleted
-  deleted-shape r =
-      let T = recounted S (newlyCounted S) (outgoing S (tagOf (regions S) r)) in
-      let m = recounted-shape (newlyCounted S) (outgoing S (tagOf (regions S) r)) in
-      let g = with-regions-shaped T m _ (without-region (regions T) (m .inRegions) (entryOf (regions S) r)) in
-      with-frames-shaped _ (with-pages-shaped _ g _ (free-pages (pages S) (h .inPages) (tagOf (regions S) r))) _ (raise-mark (frames S) (h .inFrames))
+  deleted-shape rs =
+      let ts = map (tagOf (regions S)) rs in
+      let T = recounted S (newlyCounted S) (outgoing S ts) in
+      let m = recounted-shape (newlyCounted S) (outgoing S ts) in
+      let g = with-regions-shaped T m _ (without-regions (regions T) (m .inRegions) (map (entryOf (regions S)) rs)) in
+      with-frames-shaped _ (with-pages-shaped _ g _ (free-pages (pages S) (h .inPages) ts)) _ (raise-mark (frames S) (h .inFrames))
 
 pointed-shape : (S : Store) → Shaped S → (v w x : ℕ) → x < 4294967296 → Shaped (pointed S v w x)
 unfolding pointed
@@ -228,7 +229,7 @@ accepted-keeps (report r) S a T x h e q =
 accepted-keeps totals S a T x h e q =
     both-of a _ T _ q h (four-small _ _ _ _ (omega (arith, pages-below (pages S) 0)) (omega (arith, live-below (regions S))) (h .inFrames .standing) (h .inFrames .counted))
 accepted-keeps audit S a T x h e q = (subst⁻¹ Shaped (q .1) h, audit-small S a (q .0))
-accepted-keeps (delete r) S a T x h e q = both-of a _ T _ q (deleted-shape S h r) (one _ (omega (arith, pages-below (pages S) (tagOf (regions S) r))))
+accepted-keeps (delete r) S a T x h e q = both-of a _ T _ q (deleted-shape S h (r ∷ [])) (one _ (omega (arith, pages-below (pages S) (tagOf (regions S) r))))
 
 pub keeps-shape : KeepsShape
 unfolding KeepsShape Outcome
