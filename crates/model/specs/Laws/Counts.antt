@@ -99,7 +99,7 @@ module _ (lives : ℕ → Bool) (home : ℕ → ℕ) (ks : List (List ℕ)) (r :
       omega (arith, sum-set (fromObject lives home ks r) os p (withWord o w x) noObject i, from-set o w x l e h)
 
 module _ (L : Model) (r : ℕ) (v : Valid L) (s w x : ℕ) (n : null L s ≡ false) (k : w < length ((inSlot L s) .words)) where
-  write-words : words (writeWord L s w x) r + weighs L s w r (getD ((inSlot L s) .words) w 0) ≡ wordPointers L r + weighs L s w r x
+  write-words : wordPointers (writeWord L s w x) r + weighs L s w r (getD ((inSlot L s) .words) w 0) ≡ wordPointers L r + weighs L s w r x
   unfolding writeWord weighs adds
   write-words =
       let l = held-lives L v s n in
