@@ -2,13 +2,13 @@
 -- Assumes nothing.
 use mathlib.Core.Path.{_≡_, sym, _∙_}
 use mathlib.Core.Bool.{Bool}
-use mathlib.Core.List.{List, [], _∷_}
+use mathlib.Core.List.{List, [], _∷_, append-nil}
 use Prim.Native.Nat.{ℕ, _+_}
 use lib.ListN.{length, getD}
 use Rattle.model.specs.Model.{Answer, delete, gives}
 use Rattle.model.specs.Calls.{reason}
 use Rattle.frames.specs.Frames.{raised}
-use Rattle.regions.specs.Regions.{entryIn, entryOf, tagOf, subregionsIn, subregionsOf, countAt, withoutRegion, withCounts}
+use Rattle.regions.specs.Regions.{entryIn, entryOf, tagOf, subregionsIn, subregionsOf, countAt, withoutRegions, withCounts}
 use Rattle.regions.specs.Laws.Counts.{Counts}
 use Rattle.regions.specs.Laws.Steps.{enterings, leavings}
 use Rattle.regions.specs.Laws.Recount.{enter-leave-recount}
@@ -43,11 +43,11 @@ module _ (S : Store) (r : ℕ) where
 
     -- and k, os and cs, where the tests accept: the number of pages, the owners and the counts left
     pub delete-effect : (a : Answer) (T : Store) (k : ℕ) (os cs : List ℕ) → g ≡ 0 → a ≡ gives (k ∷ []) → k ≡ pagesIn ((pages S) .made) ((pages S) .owners) (e + 1) → Counts ((regions S) .counts)
-        → os ≡ ownersTo ((pages S) .owners) (e + 1) (pageCountIn ((pages S) .made))
+        → os ≡ ownersTo ((pages S) .owners) ((e + 1) ∷ []) (pageCountIn ((pages S) .made))
         → let f = frames S in cs ≡ enterings (leavings ((regions S) .counts) (outOf ((pages S) .owners) (e + 1) (freeWordsOf (kinds S) (S .heap) (pages S) (e + 1)))) (newlyIn (f .standing) (f .counted) (f .widths) (f .slots) ((pages S) .owners))
-        → frames T ≡ raised f → kinds T ≡ kinds S → regions T ≡ withoutRegion (withCounts (regions S) cs) e → pages T ≡ pagesWith ((pages S) .made) os ((pages S) .taken) → T .heap ≡ S .heap
+        → frames T ≡ raised f → kinds T ≡ kinds S → regions T ≡ withoutRegions (withCounts (regions S) cs) (e ∷ []) → pages T ≡ pagesWith ((pages S) .made) os ((pages S) .taken) → T .heap ≡ S .heap
         → Outcome (delete r) S a T
     unfolding Accepted deleted recounted outgoing newlyCounted entryOf tagOf freed pageCount pagesOf
     delete-effect a T k os cs z p ek fits eo ec ef en er ep eh =
         by-effect (delete r) S a T (delete-second ∙ z)
-        (p ∙ rw (ek, found), by-parts T (deleted S r) ef en (er ∙ rw (ec, enter-leave-recount (regions S) fits, ← found)) (ep ∙ rw (eo, ← found)) eh)
+        (p ∙ rw (ek, found), by-parts T (deleted S (r ∷ [])) ef en (er ∙ rw (ec, enter-leave-recount (regions S) fits, append-nil, ← found)) (ep ∙ rw (eo, ← found)) eh)

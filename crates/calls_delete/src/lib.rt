@@ -2,7 +2,7 @@
 use state::Done;
 use state::State;
 ghost use mathlib.Core.Path.{_≡_};
-ghost use mathlib.Core.List.{[]};
+ghost use mathlib.Core.List.{[], _∷_};
 ghost use lib.ListN.{length};
 ghost use Rattle.model.specs.Model.{delete};
 ghost use Rattle.kinds.specs.Kinds.{kindsWith};
@@ -24,7 +24,7 @@ fn give_pages<'a>(
     tag: u32,
 ) -> u32
     requires { ⌜ length (now owners) ≡ 256 ⌝ }
-    ensures { λ r. ⌜ (r ≡ pagesIn made (now (owners .entry)) tag) × (now (owners .exit) ≡ ownersTo (now (owners .entry)) tag (pageCountIn made)) × (now (counts .exit) ≡ leavings (now (counts .entry)) (outOf (now (owners .entry)) tag (freeWordsOf (kindsWith declared (now (sizes .entry)) (now (marks .entry))) (now (heap .entry)) (pagesWith made (now (owners .entry)) (now (taken .entry))) tag))) ⌝ }
+    ensures { λ r. ⌜ (r ≡ pagesIn made (now (owners .entry)) tag) × (now (owners .exit) ≡ ownersTo (now (owners .entry)) (tag ∷ []) (pageCountIn made)) × (now (counts .exit) ≡ leavings (now (counts .entry)) (outOf (now (owners .entry)) tag (freeWordsOf (kindsWith declared (now (sizes .entry)) (now (marks .entry))) (now (heap .entry)) (pagesWith made (now (owners .entry)) (now (taken .entry))) tag))) ⌝ }
 {
     let n = pages::page_count(made);
     let mut number: u32 = 0;

@@ -2,7 +2,7 @@ use mathlib.Core.Path.{refl, _∙_}
 use native.Mathlib.Omega.{arith}
 use borrow.Author.Needs.{needs}
 use Rattle.frames.specs.Frames.{topFrame, raised}
-use Rattle.regions.specs.Regions.{withCounts, withoutRegion}
+use Rattle.regions.specs.Regions.{withCounts, withoutRegions}
 use Rattle.regions.specs.Laws.Entries.{entry-most}
 use Rattle.outcomes.specs.Laws.Steps.{by-refusal}
 use Rattle.calls_delete.proofs.Laws.{delete-second, delete-effect}
@@ -21,7 +21,7 @@ returns c =
     by-refusal _ _ _ _ _ (delete-second _ _ _ _ (e .entry-of .ensures) (t .delete-refusal .ensures)) (c .before .if1 .taken) (c .refused .ensures) refl
 
 returns-2 : tie.Need-returns-2
-unfolding raised topFrame withCounts withoutRegion
+unfolding raised topFrame withCounts withoutRegions
 returns-2 c =
     let t = c .before .before in
     let w = t .before in

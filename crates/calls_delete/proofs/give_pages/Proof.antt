@@ -1,7 +1,7 @@
 use mathlib.Core.Path.{_≡_, refl, sym, ap, _∙_}
 use mathlib.Core.Bool.{Bool}
 use mathlib.Core.Logic.{⊎-elim}
-use mathlib.Core.List.{List}
+use mathlib.Core.List.{List, [], _∷_}
 use Prim.Native.Nat.{ℕ, _-_, _≤_}
 use native.Mathlib.Omega.{arith}
 use lib.Dec.{eqb}
@@ -11,6 +11,7 @@ use borrow.Author.Tests.{eq-eqb, ne-eqb}
 use Rattle.lists.specs.Lists.{countOf, upTo}
 use Rattle.lists.specs.Laws.Sums.{count-most}
 use Rattle.lists.specs.Laws.UpTo.{count-next, length-upTo}
+use Rattle.lists.specs.Laws.Kept.{among-alone}
 use Rattle.kinds.specs.Kinds.{kindsWith}
 use Rattle.regions.specs.Laws.Steps.{steps, leavings, steps-length}
 use Rattle.pages.specs.Pages.{ownersTo, pagesWith, pageCountIn, pageCount, ownerAt, takenAt, pagesIn}
@@ -26,7 +27,7 @@ own owners tag j = eqb (getD owners j 0) tag
 -- the region's pages passed are free and counted, and their words have left
 abbrev Inv-loop : tie.InvT-loop
 Inv-loop declared sizes marks heap made owners₀ taken counts₀ tag n number₀ j₀ owners counts number j =
-    (n ≡ pageCountIn made) × (j ≤ n) × (owners ≡ ownersTo owners₀ tag j)
+    (n ≡ pageCountIn made) × (j ≤ n) × (owners ≡ ownersTo owners₀ (tag ∷ []) j)
     × (counts ≡ leavings counts₀ (outOf owners₀ tag (wordsTo (kindsWith declared sizes marks) heap (pagesWith made owners₀ taken) tag j)))
     × (number ≡ countOf (own owners₀ tag) (upTo j))
 
@@ -40,7 +41,7 @@ loop-holds : tie.Need-loop-holds Inv-loop μ-loop
 unfolding outOf steps
 loop-holds c =
     let s = c .before .before .before .before .before .before .before in
-    (c .page-count .ensures, search needs, sym (freed-none (s .args .owners .now) (s .args .tag) (long s)), refl, refl)
+    (c .page-count .ensures, search needs, sym (freed-none (s .args .owners .now) (s .args .tag ∷ []) (long s)), refl, refl)
 
 -- a page come to has the owner that it had
 owner-is :
@@ -50,7 +51,7 @@ owner-is :
 owner-is c =
     let l = c .before .before .before in
     let a = l .before .before .before .before .before .before .before .before .args in
-    c .owner-at .ensures ∙ rw (l .loop .inv .2) (freed-later (a .owners .now) (a .tag) (l .loop .j) (l .loop .j) (omega arith) (omega arith))
+    c .owner-at .ensures ∙ rw (l .loop .inv .2) (freed-later (a .owners .now) (a .tag ∷ []) (l .loop .j) (l .loop .j) (omega arith) (omega arith))
 
 add-number : tie.Need-add-number Inv-loop μ-loop
 add-number c =
@@ -71,8 +72,8 @@ loop-again c =
       l .loop .inv .0,
       omega arith,
       ⊎-elim
-          (λ w. w .11 ∙ w .8 .ensures ∙ rw (l .loop .inv .2) (freed-own os (a .tag) j (sym (owner-is (c .before)) ∙ w .0 .taken)))
-          (λ w. w .1 ∙ l .loop .inv .2 ∙ freed-other os (a .tag) j (λ q. w .0 .left (owner-is (c .before) ∙ q)))
+          (λ w. w .11 ∙ w .8 .ensures ∙ rw (l .loop .inv .2) (freed-own os (a .tag ∷ []) j (among-alone _ (a .tag) ∙ eq-eqb _ _ (sym (owner-is (c .before)) ∙ w .0 .taken))))
+          (λ w. w .1 ∙ l .loop .inv .2 ∙ freed-other os (a .tag ∷ []) j (among-alone _ (a .tag) ∙ ne-eqb _ _ (λ q. w .0 .left (owner-is (c .before) ∙ q))))
           (c .if1 .came),
       ⊎-elim
           (λ w. w .12 ∙ w .4 .ensures ∙ page-left k (a .heap .now) p (a .tag) j _ _ (a .counts .now) _ (l .loop .inv .2) (w .1 .ensures) (l .loop .inv .3) (long s) (sym (owner-is (c .before)) ∙ w .0 .taken))
@@ -85,7 +86,7 @@ same-length : tie.Need-same-length Inv-loop μ-loop
 same-length c =
     let l = c .before in
     let s = l .before .before .before .before .before .before .before .before in
-    ap length (l .loop .inv .2) ∙ owners-length (s .args .owners .now) (s .args .tag) (l .loop .j) ∙ sym (long s)
+    ap length (l .loop .inv .2) ∙ owners-length (s .args .owners .now) (s .args .tag ∷ []) (l .loop .j) ∙ sym (long s)
 
 same-length-2 : tie.Need-same-length-2 Inv-loop μ-loop
 same-length-2 c = let l = c .before in ap length (l .loop .inv .3) ∙ steps-length 4294967295 (l .before .before .before .before .before .before .before .before .args .counts .now) _

@@ -9,7 +9,7 @@ use lib.ListN.{replicate}
 use Rattle.model.specs.Model.{delete}
 use Rattle.frames.specs.Frames.{frameCount, topFrame, widthAt, slotAt, raised}
 use Rattle.kinds.specs.Kinds.{kindCount, sizeOf, markAt, sizeIn}
-use Rattle.regions.specs.Regions.{nameAt, entryOf, tagOf, isLive, parentAt, subregionsOf, countAt, withoutRegion, withCounts, rolled, moved, entryIn, subregionsIn, recount}
+use Rattle.regions.specs.Regions.{nameAt, entryOf, tagOf, isLive, parentAt, subregionsOf, countAt, withoutRegions, withCounts, rolled, moved, entryIn, subregionsIn, recount}
 use Rattle.pages.specs.Pages.{wrongLength, pageCount, ownerAt, takenAt, ownerIn, ownerOf, freed, wrongLengthIn, ownersTo}
 use Rattle.objects.specs.Objects.{walk, headersTo, headersOn, freeWords, freeWordsOn, freeWordsOf, outOf}
 use Rattle.outcomes.specs.Store.{Store, frames, regions, pages, ledInto, slotTargets, targetsIn, ledIn}
@@ -40,8 +40,8 @@ abbrev reads : Store → List ℕ
 reads S = countAt (regions S) 0 ∷ countAt (regions S) 1 ∷ (frames S) .counted ∷ ownerAt (pages S) 0 ∷ ownerAt (pages S) 1 ∷ nameAt (regions S) 1 ∷ []
 
 -- one pointer into region 1 went with the page, two came with the frames that are counted now
-goes : reads (deleted (memory 0 0 0) 2) ≡ 2 ∷ 0 ∷ 2 ∷ 1 ∷ 0 ∷ 0 ∷ []
-unfolding frameCount topFrame widthAt slotAt raised kindCount sizeOf markAt nameAt entryOf tagOf countAt withoutRegion withCounts rolled moved pageCount ownerAt takenAt ownerIn ownerOf freed walk headersTo headersOn freeWords freeWordsOn outOf slotTargets recounted outgoing newlyCounted deleted sizeIn entryIn recount targetsIn newlyIn freeWordsOf ownersTo
+goes : reads (deleted (memory 0 0 0) (2 ∷ [])) ≡ 2 ∷ 0 ∷ 2 ∷ 1 ∷ 0 ∷ 0 ∷ []
+unfolding frameCount topFrame widthAt slotAt raised kindCount sizeOf markAt nameAt entryOf tagOf countAt withoutRegions withCounts rolled moved pageCount ownerAt takenAt ownerIn ownerOf freed walk headersTo headersOn freeWords freeWordsOn outOf slotTargets recounted outgoing newlyCounted deleted sizeIn entryIn recount targetsIn newlyIn freeWordsOf ownersTo
 goes = refl
 
 -- nothing in the way; a slot of the top frame; a stored count; a subregion; a subregion and both kinds of pointer

@@ -39,7 +39,7 @@ module _ (k : Kinds) (heap : List ℕ) (p : Pages) (t n : ℕ) where
   words-own h = words-more ∙ rw (eq-eqb (ownerAt p n) t h, append-nil (freeWordsOn k heap p n))
 
   -- the counts ds when the words of page n leave, of which m are taken, with the owners os of which the region's pages below n are free
-  pub page-left : (m : ℕ) (os cs ds : List ℕ) → os ≡ ownersTo (p .owners) t n → m ≡ takenAt p n → ds ≡ leavings cs (outOf (p .owners) t (wordsTo k heap p t n)) → length (p .owners) ≡ 256 → ownerAt p n ≡ t
+  pub page-left : (m : ℕ) (os cs ds : List ℕ) → os ≡ ownersTo (p .owners) (t ∷ []) n → m ≡ takenAt p n → ds ≡ leavings cs (outOf (p .owners) t (wordsTo k heap p t n)) → length (p .owners) ≡ 256 → ownerAt p n ≡ t
       → leavings ds (outOf os t (freeWordsTo k heap n m)) ≡ leavings cs (outOf (p .owners) t (wordsTo k heap p t (n + 1)))
   unfolding freeWordsOn headersOn
   page-left m os cs ds eo em ed e h =
