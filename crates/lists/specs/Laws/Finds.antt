@@ -170,13 +170,17 @@ module _ {A : Type 0} where
       go true e h = omega (arith, sum-none t f xs (all-map (λ x z. bit-zero (t x) z) xs (sum-zero (λ x. bit (t x)) xs (omega arith))))
       go false e h = omega (arith, h (omega arith))
 
-  -- it goes, or changes by h
-  pub sum-without : (t : A → Bool) (f : A → ℕ) (d : A) (l : List A) → countOf t l ≡ 1 → sumOf f (keep (λ x. not (t x)) l) + f (findOr t d l) ≡ sumOf f l
-  sum-without t f d l e = rw (sum-keep f (λ x. not (t x)) l, sym (sum-one t f d l e)) (sym (sum-plus _ _ l) ∙ ap (λ f. sumOf f l) (fun-ext (λ x. go (t x) (f x))))
+  -- those that are thrown out, and those that are kept
+  pub sum-parted : (t : A → Bool) (f : A → ℕ) (l : List A) → sumOf f (keep (λ x. not (t x)) l) + sumOf (λ x. pick (t x) (f x) 0) l ≡ sumOf f l
+  sum-parted t f l = rw (sum-keep f (λ x. not (t x)) l) (sym (sum-plus _ _ l) ∙ ap (λ f. sumOf f l) (fun-ext (λ x. go (t x) (f x))))
     where
       go : (b : Bool) (n : ℕ) → pick (not b) n 0 + pick b n 0 ≡ n
       go true n = omega arith
       go false n = omega arith
+
+  -- it goes, or changes by h
+  pub sum-without : (t : A → Bool) (f : A → ℕ) (d : A) (l : List A) → countOf t l ≡ 1 → sumOf f (keep (λ x. not (t x)) l) + f (findOr t d l) ≡ sumOf f l
+  sum-without t f d l e = rw (sym (sum-one t f d l e)) (sum-parted t f l)
 
   pub sum-instead : (t : A → Bool) (h : A → A) (f : A → ℕ) (d : A) (l : List A) → countOf t l ≡ 1
       → sumOf f (map (λ x. pick (t x) (h x) x) l) + f (findOr t d l) ≡ sumOf f l + f (h (findOr t d l))

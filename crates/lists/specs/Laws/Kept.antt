@@ -1,19 +1,19 @@
 -- Laws of lists that are mapped, kept and joined one after the other, and of sums over them.
 -- Assumes nothing.
-use mathlib.Core.Path.{_≡_, refl, sym, ap, ap₂, _∙_}
+use mathlib.Core.Path.{_≡_, refl, sym, ap, ap₂, _∙_, subst, fun-ext}
 use mathlib.Core.Logic.{_≢_}
-use mathlib.Core.Bool.{Bool, true, false, _||_, false≢true}
+use mathlib.Core.Bool.{Bool, true, false, _||_, or-false, false≢true}
 use mathlib.Core.List.{List, [], _∷_, _++_, map}
 use Prim.Native.Nat.{ℕ, zero, suc, _+_, _≤_, _<_, min}
 use native.Mathlib.Omega.{arith}
 use lib.Dec.{eqb, leb}
 use lib.ListN.{length, getD}
 use borrow.Author.Tests.{leb-true, leb-false, eqb-true, eq-eqb, ne-eqb}
-use Rattle.lists.specs.Lists.{pick, anyOf, keep, findOr, sumOf, All, All₂, joined, from, upTo, among}
-use Rattle.lists.specs.Laws.Tests.{by-test, or-right}
+use Rattle.lists.specs.Lists.{bit, pick, anyOf, keep, findOr, sumOf, All, All₂, joined, from, upTo, times, among}
+use Rattle.lists.specs.Laws.Tests.{by-test, or-right, eqb-sym}
 use Rattle.lists.specs.Laws.All.{all-map, all-append}
-use Rattle.lists.specs.Laws.Finds.{all-keep, map-append}
-use Rattle.lists.specs.Laws.Sums.{sum-pick, length-keep, count-most}
+use Rattle.lists.specs.Laws.Finds.{all-keep, any-count, map-append}
+use Rattle.lists.specs.Laws.Sums.{sum-pick, sum-swap, length-keep, count-most}
 use Rattle.lists.specs.Laws.UpTo.{all-upTo, upTo-all, length-upTo, sum-suc, sum-change}
 
 module _ {A B : Type 0} where
@@ -83,6 +83,25 @@ pub among-self : (l : List ℕ) → All (λ n. among n l ≡ true) l
 among-self [] = tt
 among-self (x ∷ xs) = (rw (eq-eqb x x refl), all-map (λ n e. or-right (eqb x n) (among n xs) e) xs (among-self xs))
 
+-- a list of one, read from either side
+pub among-one : (n t : ℕ) → among n (t ∷ []) ≡ eqb t n
+among-one n t = or-false (eqb t n)
+
+pub among-alone : (n t : ℕ) → among n (t ∷ []) ≡ eqb n t
+among-alone n t = among-one n t ∙ eqb-sym t n
+
+-- what holds of each number of a list, by its members
+pub among-all : (P : ℕ → Type 0) (l : List ℕ) → ((n : ℕ) → among n l ≡ true → P n) → All P l
+among-all P l h = all-map h l (among-self l)
+
+pub all-among : (P : ℕ → Type 0) (l : List ℕ) → All P l → (n : ℕ) → among n l ≡ true → P n
+all-among P [] h n e = absurd (false≢true e)
+all-among P (x ∷ xs) h n e = go (eqb x n) refl e (all-among P xs (h .1) n)
+  where
+    go : (b : Bool) → eqb x n ≡ b → (b || among n xs) ≡ true → (among n xs ≡ true → P n) → P n
+    go true q e ih = subst P (eqb-true x n q) (h .0)
+    go false q e ih = ih e
+
 module _ {A : Type 0} where
   pub all-each : (P : A → Type 0) → ((x : A) → P x) → (l : List A) → All P l
   all-each P h [] = tt
@@ -144,6 +163,21 @@ unfolding without
 sum-two f n i k h l d =
     let e : without f k i ≡ f i = rw (ne-eqb i k d) in
     omega (arith, e, sum-without f n k l, sum-one (without f k) n i h)
+
+-- what counts for one member at most
+sum-once : (x n : ℕ) (l : List ℕ) → times x l ≤ 1 → sumOf (λ t. pick (eqb x t) n 0) l ≡ pick (among x l) n 0
+sum-once x n [] h = refl
+sum-once x n (t ∷ ts) h = rw (eqb-sym x t) (go (eqb t x) h (sum-once x n ts))
+  where
+    go : (b : Bool) → bit b + times x ts ≤ 1 → (times x ts ≤ 1 → sumOf (λ t. pick (eqb x t) n 0) ts ≡ pick (among x ts) n 0)
+        → pick b n 0 + sumOf (λ t. pick (eqb x t) n 0) ts ≡ pick (b || among x ts) n 0
+    go true h ih = let e : times x ts ≡ 0 = omega arith in omega (arith, rw (any-count (λ t. eqb t x) ts, e) at (ih (omega arith)))
+    go false h ih = omega (arith, ih (omega arith))
+
+-- what is added up for each number of a list without repeats, over the elements that have it, is added up over the elements whose number is a member
+pub sum-members : {A : Type 0} (number f : A → ℕ) (l : List A) (ts : List ℕ) → ((n : ℕ) → times n ts ≤ 1)
+    → sumOf (λ t. sumOf (λ x. pick (eqb (number x) t) (f x) 0) l) ts ≡ sumOf (λ x. pick (among (number x) ts) (f x) 0) l
+sum-members number f l ts d = sum-swap (λ t x. pick (eqb (number x) t) (f x) 0) ts l ∙ ap (λ g. sumOf g l) (fun-ext (λ x. sum-once (number x) (f x) ts (d (number x))))
 
 -- the numbers below m, and those from m on
 pub sum-above : (f : ℕ → ℕ) (m n : ℕ) → sumOf f (upTo n) ≡ sumOf f (upTo (min m n)) + sumOf (λ i. pick (leb m i) (f i) 0) (upTo n)
