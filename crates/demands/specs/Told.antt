@@ -6,7 +6,7 @@ use mathlib.Core.List.{List, [], _∷_, _++_, map}
 use Prim.Native.Nat.{ℕ, zero, suc, _-_, _/_}
 use lib.Dec.{eqb, ltb, leb}
 use lib.ListN.{length, getD, take}
-use Rattle.lists.specs.Lists.{pick, every, keep, upTo, among}
+use Rattle.lists.specs.Lists.{pick, every, keep, joined, upTo, among}
 use Rattle.model.specs.Model.{Call, declare, newRegion, subregion, push, dropFrame, handBack, allocate, first, copy, fetch, clear, load, setPointer, put, get, view, same, about, report, totals, audit, delete}
 use Rattle.frames.specs.Frames.{slotAt}
 use Rattle.outcomes.specs.Store.{Store, frames}
@@ -70,16 +70,16 @@ objectMade h r k (suc p) = record {
 abbrev pub pagesHeldBy : History → ℕ → List ℕ
 pagesHeldBy h r = map (λ t. t .page) (keep (λ t. eqb (t .region) r) (h .held))
 
--- region r goes with its objects; those of its pages that no other region holds are free; m is raised
-unfoldable pub ended : History → ℕ → History
-ended h r = record {
+-- the regions that rs names go with their objects; those of their pages that no other region holds are free; m is raised (document 01, Delete)
+unfoldable pub ended : History → List ℕ → History
+ended h rs = record {
   kinds = h .kinds;
   frames = h .frames;
   counted = length (h .frames) - 1;
-  regions = keep (λ g. not (eqb (g .name) r)) (h .regions);
-  objects = keep (λ o. not (eqb (o .home) r)) (h .objects);
-  held = keep (λ t. not (eqb (t .region) r)) (h .held);
-  free = h .free ++ keep (λ j. every (λ q. eqb q r) (holders h j)) (pagesHeldBy h r);
+  regions = keep (λ g. not (among (g .name) rs)) (h .regions);
+  objects = keep (λ o. not (among (o .home) rs)) (h .objects);
+  held = keep (λ t. not (among (t .region) rs)) (h .held);
+  free = h .free ++ keep (λ j. every (λ q. among q rs) (holders h j)) (joined (pagesHeldBy h) rs);
   pages = h .pages;
 }
 
@@ -110,7 +110,7 @@ told (about s) v T h = h
 told (report r) v T h = h
 told totals v T h = h
 told audit v T h = h
-told (delete r) v T h = ended h r
+told (delete r) v T h = ended h (r ∷ [])
 
 abbrev pub noteBy : ℕ → Event → History → History
 noteBy zero e h = told (e .call) (e .answer .values) (e .left) h

@@ -5,7 +5,7 @@ use mathlib.Core.List.{List, [], _∷_, _++_, map}
 use Prim.Native.Nat.{ℕ, zero, suc, _+_, _-_, _%_}
 use lib.Dec.{eqb, ltb, leb}
 use lib.ListN.{length, getD, set, take, replicate}
-use Rattle.lists.specs.Lists.{bit, pick, anyOf, every, keep}
+use Rattle.lists.specs.Lists.{bit, pick, anyOf, every, keep, sumOf, among}
 use Rattle.model.specs.Model.{Call, declare, newRegion, subregion, push, dropFrame, handBack, allocate, first, copy, fetch, clear, load, setPointer, put, get, view, same, about, report, totals, audit, delete}
 use Rattle.model.specs.Model.{Region, Object, Model, Answer, four, gives, refusedBy, called, region, marks, livesIn, homeIn, parentIn, topPlace, top, beneath, slot, inSlot, slotMarks, markAt, inFrames, fromObject, inWords, outside, stored, subregions, allowed}
 
@@ -178,16 +178,16 @@ addObject L r k =
       objects = L .objects ++ (record { home = r; kind = k; words = replicate (length (marks (L .kinds) k)) 0 } ∷ []);
     }
 
--- the regions but r
-abbrev pub others : List Region → ℕ → List Region
-others gs r = keep (λ g. not (called r g)) gs
+-- the regions but those that rs names
+abbrev pub others : List Region → List ℕ → List Region
+others gs rs = keep (λ g. not (among (g .name) rs)) gs
 
--- region r goes, its pages are free again, and all frames but the top one are counted (document 01, Delete)
-unfoldable pub removeRegion : Model → ℕ → Model
-removeRegion L r = record {
-  free = L .free + (region (L .regions) r) .pages;
+-- the regions that rs names go, their pages are free again, and all frames but the top one are counted (document 01, Delete)
+unfoldable pub removeRegions : Model → List ℕ → Model
+removeRegions L rs = record {
+  free = L .free + sumOf (λ r. (region (L .regions) r) .pages) rs;
   kinds = L .kinds;
-  regions = others (L .regions) r;
+  regions = others (L .regions) rs;
   frames = L .frames;
   counted = topPlace (L .frames);
   given = L .given;
@@ -216,7 +216,7 @@ accepted L (about s) = L
 accepted L (report r) = L
 accepted L totals = L
 accepted L audit = L
-accepted L (delete r) = removeRegion L r
+accepted L (delete r) = removeRegions L (r ∷ [])
 
 -- ---- Each call, and lists of calls. A refused call answers its number and changes nothing
 
@@ -236,7 +236,7 @@ next L c = nextBy (refusal L c) L c
 
 -- what a list of calls answers, and the model that it leaves
 unfoldable pub run : Model → List Call → List Answer
-unfolding answer next refusal checks reply accepted fillSlot popFrame writeWord addRegion addObject grown removeRegion outside stored inWords inFrames fromObject allowed
+unfolding answer next refusal checks reply accepted fillSlot popFrame writeWord addRegion addObject grown removeRegions outside stored inWords inFrames fromObject allowed
 run L [] = []
 run L (c ∷ cs) = answer L c ∷ run (next L c) cs
 

@@ -4,6 +4,7 @@ pub mod Passed
 pub mod Regions
 pub mod Slots
 pub mod Grows
+pub mod Removable
 pub mod Deletes
 pub mod Next
 pub mod Counts

@@ -1,6 +1,6 @@
 -- What each accepted call moves in the stored count of a region: what enters it and what leaves it. `Laws.Moves` proves it of every live region.
 -- Assumes nothing.
-use mathlib.Core.List.{List}
+use mathlib.Core.List.{List, [], _∷_}
 use Prim.Native.Nat.{ℕ, zero, suc}
 use lib.Dec.{eqb}
 use lib.ListN.{getD, take, drop}
@@ -29,6 +29,10 @@ weighs L s w r x = pick (eqb ((inSlot L s) .home) r) 0 (freeInto (homeIn L) r (m
 unfoldable pub fromRegion : Model → ℕ → ℕ → ℕ
 fromRegion L q r = sumOf (λ o. pick (eqb (o .home) q) (sumOf₂ (freeInto (homeIn L) r) (marks (L .kinds) (o .kind)) (o .words)) 0) (L .objects)
 
+-- and those of several regions (document 01, Delete: they leave the counts of the regions they lead to)
+unfoldable pub fromRegions : Model → List ℕ → ℕ → ℕ
+fromRegions L qs r = sumOf (λ q. fromRegion L q r) qs
+
 -- (what enters, what leaves) the stored count of region r by an accepted call
 unfoldable pub moves : Model → Call → ℕ → ℕ × ℕ
 moves L (declare ms) r = (0, 0)
@@ -52,7 +56,7 @@ moves L (about s) r = (0, 0)
 moves L (report q) r = (0, 0)
 moves L totals r = (0, 0)
 moves L audit r = (0, 0)
-moves L (delete q) r = (inFrames (homeIn L) r (newly L), fromRegion L q r)
+moves L (delete q) r = (inFrames (homeIn L) r (newly L), fromRegions L (q ∷ []) r)
 
 -- and by a call that is refused by n, 0 if it is accepted
 abbrev pub movesBy : ℕ → Model → Call → ℕ → ℕ × ℕ

@@ -15,8 +15,7 @@ use Rattle.lists.specs.Laws.Sums.{sum-map}
 use Rattle.lists.specs.Laws.Finds.{any-map, any-count, all-found, true-every}
 use Rattle.model.specs.Model.{Model, Region, noRegion, called, region, livesIn, homeIn, parentIn}
 use Rattle.model.specs.Valid.{ValidParent, OwnOldest, levelOf}
-use Rattle.model.specs.Laws.Regions.{live-all, name-is}
-use Rattle.model.specs.Laws.Paged.{distinct-one}
+use Rattle.model.specs.Laws.Regions.{live-all, name-is, distinct-one}
 use Rattle.regions.specs.Regions.{nameAt, entryOf, tagOf, levelAt, newestAt}
 use Rattle.pages.specs.Pages.{pageCount, ownerAt}
 use Rattle.outcomes.specs.Store.{Store, regions, pages}

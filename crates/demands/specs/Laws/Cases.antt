@@ -33,14 +33,14 @@ cases =
     -- drop_keeps_m
     ((popped three) .counted, 1)
     -- delete_leaves_m
-    ∷ ((ended (withFrames three (three .frames) 0) 1) .counted, 2)
+    ∷ ((ended (withFrames three (three .frames) 0) (1 ∷ [])) .counted, 2)
     -- page_taken_stays_free
     ∷ (times 1 (one .free), 0)
     ∷ (times 0 (one .free), 1)
     ∷ (length (holders one 1), 1)
     -- deleted_region_holds_pages
-    ∷ (times 1 ((ended one 1) .free), 1)
-    ∷ (length (holders (ended one 1) 1), 0)
+    ∷ (times 1 ((ended one (1 ∷ [])) .free), 1)
+    ∷ (length (holders (ended one (1 ∷ [])) 1), 0)
     -- refused_call_is_noted
     ∷ (length ((note refused (opening 2)) .frames), 0)
     -- subregion_without_parent

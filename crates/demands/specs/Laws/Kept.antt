@@ -10,14 +10,14 @@ use lib.Dec.{eqb, ltb, leb}
 use lib.ListN.{length, getD, set, take, replicate, length-append, length-replicate, length-set, List·getD-append, List·getD-map}
 use lib.Seq.{map-set-same, getD-append-seam}
 use borrow.Author.Tests.{eqb-true, eq-eqb}
-use Rattle.lists.specs.Lists.{pick, sumOf, from}
-use Rattle.lists.specs.Laws.Tests.{by-test}
+use Rattle.lists.specs.Lists.{pick, sumOf, from, among}
+use Rattle.lists.specs.Laws.Tests.{by-test, pick-same}
 use Rattle.lists.specs.Laws.All.{all-map, all-at}
 use Rattle.lists.specs.Laws.Sums.{sum-append, sum-map, sum-keep, sum-same}
 use Rattle.lists.specs.Laws.Finds.{map-append}
 use Rattle.lists.specs.Laws.UpTo.{sum-from-suc, all-from}
 use Rattle.model.specs.Model.{Model, Region, Object, noObject, object, called, live, livesIn, homeIn, topPlace, top, slot}
-use Rattle.model.specs.Calls.{fillSlot, popFrame, replaced, withWord, withObjects, writeWord, addRegion, grown, addObject, others, removeRegion, size}
+use Rattle.model.specs.Calls.{fillSlot, popFrame, replaced, withWord, withObjects, writeWord, addRegion, grown, addObject, others, removeRegions, size}
 use Rattle.model.specs.Calls as model
 use Rattle.model.specs.Valid.{Valid}
 use Rattle.model.specs.Laws.Regions.{live-less, live-others, live-removed}
@@ -98,24 +98,20 @@ module _ {L : Model} {sp : List ℕ} {h : History} (t : Tells L sp h) where
       past : (q : ℕ) → homeIn L q ≤ L .given
       past q = all-at (λ o. o .home ≤ L .given) (noObject ∷ L .objects) q noObject (omega arith, all-map (λ o k. k .homeGiven) (L .objects) (v .objects)) (omega arith)
 
-  pub remove-told : (r : ℕ) → Tells (removeRegion L r) sp (ended h r)
-  unfolding removeRegion ended
-  remove-told r = record {
+  pub remove-told : (rs : List ℕ) → Tells (removeRegions L rs) sp (ended h rs)
+  unfolding removeRegions ended
+  remove-told rs = record {
     kinds = t .kinds;
     frames = t .frames;
     counted = ap (λ n. n - 1) (frames-length t);
-    regions = λ f. sum-keep f _ (h .regions) ∙ t .regions (λ g. pick (not (eqb (g .name) r)) (f g) 0) ∙ sym (sum-keep (λ g. f (listed g)) (λ g. not (called r g)) (L .regions));
-    objects = λ f. sum-keep f _ (h .objects) ∙ t .objects (λ o. pick (not (eqb (o .home) r)) (f o) 0) ∙ ap (λ k. sumOf k (idsIn L)) (fun-ext (λ q. gone (homeIn L q) (f (met L sp q))));
+    regions = λ f. sum-keep f _ (h .regions) ∙ t .regions (λ g. pick (not (among (g .name) rs)) (f g) 0) ∙ sym (sum-keep (λ g. f (listed g)) (λ g. not (among (g .name) rs)) (L .regions));
+    objects = λ f. sum-keep f _ (h .objects) ∙ t .objects (λ o. pick (not (among (o .home) rs)) (f o) 0) ∙ ap (λ k. sumOf k (idsIn L)) (fun-ext (λ q. gone (homeIn L q) (f (met L sp q))));
   }
     where
-      gone : (q n : ℕ) → pick (livesIn L q) (pick (not (eqb q r)) n 0) 0 ≡ pick (live (others (L .regions) r) q) n 0
-      gone q n = by-test (eqb q r)
-          (λ e. rw (eqb-true q r e, live-removed (L .regions) r, eq-eqb r r refl) (same (livesIn L r)))
-          (λ e. rw (e, live-others (L .regions) r q e))
-        where
-          same : (b : Bool) → _≡_ {A = ℕ} (pick b 0 0) 0
-          same true = refl
-          same false = refl
+      gone : (q n : ℕ) → pick (livesIn L q) (pick (not (among q rs)) n 0) 0 ≡ pick (live (others (L .regions) rs) q) n 0
+      gone q n = by-test (among q rs)
+          (λ e. rw (e, live-removed (L .regions) rs q e) (pick-same (livesIn L q) 0))
+          (λ e. rw (e, live-others (L .regions) rs q e))
 
   -- ---- objects
 

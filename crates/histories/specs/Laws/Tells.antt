@@ -16,7 +16,7 @@ use Rattle.lists.specs.Laws.Finds.{any-count, find-none, sum-one, true-every}
 use Rattle.model.specs.Model.{Model, Region, noRegion, called, object, livesIn, homeIn, parentIn, subregions}
 use Rattle.model.specs.Valid.{Valid}
 use Rattle.model.specs.Laws.Slots.{Known, in-list}
-use Rattle.model.specs.Laws.Paged.{distinct-one}
+use Rattle.model.specs.Laws.Regions.{distinct-one}
 use Rattle.regions.specs.declared.Regions.{Regions}
 use Rattle.pages.specs.declared.Pages.{Pages}
 use Rattle.outcomes.specs.History.{History, isLive, parentOf, at, leads, homeOf}

@@ -2,7 +2,7 @@
 -- Assumes nothing.
 use mathlib.Core.Path.{_≡_, refl, sym, ap, _∙_, fun-ext}
 use mathlib.Core.Logic.{_≢_}
-use mathlib.Core.Bool.{Bool, true, false, not, _&&_, _||_}
+use mathlib.Core.Bool.{Bool, true, false, not, _&&_, _||_, true≢false}
 use mathlib.Core.List.{List, [], _∷_, _++_}
 use Prim.Native.Nat.{ℕ, zero, suc, _+_, _-_, _≤_, _<_}
 use native.Mathlib.Omega.{arith}
@@ -10,16 +10,18 @@ use lib.Dec.{eqb, leb}
 use lib.ListN.{length, getD, set, take, drop, replicate, length-take, drop-of-length-le}
 use lib.Seq.{length-take-le, drop-nil, take-set-le, take-append-le, take-take, take-suc, drop-at}
 use borrow.Author.Tests.{eqb-true, eqb-false, ne-eqb, lt-leb, le-leb}
-use Rattle.lists.specs.Lists.{bit, pick, sumOf, sumOf₂, All}
-use Rattle.lists.specs.Laws.Tests.{both, pick-same}
+use Rattle.lists.specs.Lists.{bit, pick, sumOf, sumOf₂, All, among}
+use Rattle.lists.specs.Laws.Tests.{both, by-test, pick-same}
 use Rattle.lists.specs.Laws.All.{all-map, all-take, all₂-map}
 use Rattle.lists.specs.Laws.Sums.{sum-set, sum-append, sum-split, sum-plus, sum-same, sum₂-set, sum₂-same, sum₂-none}
+use Rattle.lists.specs.Laws.Kept.{sum-members}
 use Rattle.model.specs.Model.{Model, Object, Region, noObject, object, live, homeOf, marks, livesIn, homeIn, topPlace, top, beneath, slot, inSlot, into, freeInto, fromObject, inWords, inFrames, wordPointers, outside, stored, allowed, declare}
-use Rattle.model.specs.Calls.{accepted, withFrames, fillSlot, popFrame, replaced, withWord, writeWord, addRegion, addObject, removeRegion, others, size, null}
+use Rattle.model.specs.Calls.{accepted, withFrames, fillSlot, popFrame, replaced, withWord, writeWord, addRegion, addObject, removeRegions, others, size, null}
 use Rattle.model.specs.Valid.{Valid, ValidObject, known, fine}
-use Rattle.model.specs.Moves.{between, uncounted, newly, weighs, fromRegion}
+use Rattle.model.specs.Moves.{between, uncounted, newly, weighs, fromRegion, fromRegions}
 use Rattle.model.specs.Laws.Slots.{in-list, object-valid, held-lives}
 use Rattle.model.specs.Laws.Regions.{live-others, live-removed, homes-kept}
+use Rattle.model.specs.Laws.Removable.{Removable, member-lives}
 use Rattle.model.specs.Laws.Grows.{Extends, region-extends, object-extends, marks-append, change}
 
 -- the outside pointers are those of the stored count and those in uncounted frames
@@ -189,24 +191,25 @@ object-stored L r v h q k =
       from-new _ (homeOf (L .objects ++ (o ∷ []))) (L .kinds) r q k n refl h,
     ) (omega arith)
 
--- ---- delete: the words of the region's objects leave, and the frames newly counted enter
+-- ---- delete: the words of the members' objects leave, and the frames newly counted enter
 
-module _ (L : Model) (q r : ℕ) (l : livesIn L q ≡ true) (n : eqb q r ≡ false) where
-  from-removed : (o : Object)
-      → fromObject (live (others (L .regions) q)) (homeIn L) (L .kinds) r o + pick (eqb (o .home) q) (sumOf₂ (freeInto (homeIn L) r) (marks (L .kinds) (o .kind)) (o .words)) 0
-      ≡ fromObject (livesIn L) (homeIn L) (L .kinds) r o
+module _ (L : Model) (v : Valid L) (rs : List ℕ) (m : Removable L rs) (r : ℕ) (n : among r rs ≡ false) where
+  -- the words of object o that lead into r
+  abbrev leading : Object → ℕ
+  leading o = sumOf₂ (freeInto (homeIn L) r) (marks (L .kinds) (o .kind)) (o .words)
+
+  from-removed : (o : Object) → fromObject (live (others (L .regions) rs)) (homeIn L) (L .kinds) r o + pick (among (o .home) rs) (leading o) 0 ≡ fromObject (livesIn L) (homeIn L) (L .kinds) r o
   unfolding fromObject
-  from-removed o = go (eqb (o .home) q) refl (sumOf₂ (freeInto (homeIn L) r) (marks (L .kinds) (o .kind)) (o .words))
-    where
-      go : (b : Bool) → eqb (o .home) q ≡ b → (all : ℕ)
-          → pick (live (others (L .regions) q) (o .home) && not (eqb (o .home) r)) all 0 + pick b all 0 ≡ pick (livesIn L (o .home) && not (eqb (o .home) r)) all 0
-      go true e all = rw (eqb-true (o .home) q e, live-removed (L .regions) q, l, n) (omega arith)
-      go false e all = rw (live-others (L .regions) q (o .home) e) (omega arith)
+  from-removed o = by-test (among (o .home) rs)
+      (λ e. rw (e, live-removed (L .regions) rs (o .home) e, member-lives m (o .home) e, ne-eqb (o .home) r (λ q. true≢false (sym e ∙ ap (λ x. among x rs) q ∙ n))) (omega arith))
+      (λ e. rw (e, live-others (L .regions) rs (o .home) e) (omega arith))
 
-  remove-words : wordPointers (removeRegion L q) r + fromRegion L q r ≡ wordPointers L r
-  unfolding removeRegion fromRegion inWords
-  remove-words = sym (sum-plus _ _ (L .objects)) ∙ ap (λ f. sumOf f (L .objects)) (fun-ext from-removed)
+  remove-words : wordPointers (removeRegions L rs) r + fromRegions L rs r ≡ wordPointers L r
+  unfolding removeRegions fromRegions fromRegion inWords
+  remove-words =
+      ap (λ x. wordPointers (removeRegions L rs) r + x) (sum-members (λ o. o .home) leading (L .objects) rs (m .distinct))
+      ∙ sym (sum-plus _ _ (L .objects)) ∙ ap (λ f. sumOf f (L .objects)) (fun-ext from-removed)
 
-  pub remove-stored : Valid L → stored (removeRegion L q) r + fromRegion L q r ≡ stored L r + inFrames (homeIn L) r (newly L)
-  unfolding stored removeRegion newly
-  remove-stored v = omega (arith, remove-words, frames-split (homeIn L) r (L .counted) (topPlace (L .frames)) (L .frames) (v .frames .mark))
+  pub remove-stored : stored (removeRegions L rs) r + fromRegions L rs r ≡ stored L r + inFrames (homeIn L) r (newly L)
+  unfolding stored removeRegions newly
+  remove-stored = omega (arith, remove-words, frames-split (homeIn L) r (L .counted) (topPlace (L .frames)) (L .frames) (v .frames .mark))

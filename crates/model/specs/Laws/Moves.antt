@@ -2,20 +2,22 @@
 -- Assumes nothing.
 use mathlib.Core.Path.{_≡_, refl, ap, _∙_}
 use mathlib.Core.Bool.{true}
+use mathlib.Core.List.{[], _∷_}
 use Prim.Native.Nat.{ℕ, zero, suc, _+_, _<_}
 use native.Mathlib.Omega.{arith}
 use lib.Dec.{eqb}
 use lib.ListN.{length, getD, replicate}
 use borrow.Author.Tests.{eqb-true, leb-false, not-false}
-use Rattle.lists.specs.Laws.Tests.{pick-same, eqb-sym}
+use Rattle.lists.specs.Laws.Tests.{pick-same}
 use Rattle.model.specs.Model.{Model, Call, declare, newRegion, subregion, push, dropFrame, handBack, allocate, first, copy, fetch, clear, load, setPointer, put, get, view, same, about, report, totals, audit, delete}
 use Rattle.model.specs.Model.{region, livesIn, beneath, slot, inSlot, markAt, stored}
-use Rattle.model.specs.Calls.{checks, refusal, accepted, next, nextBy, popFrame, addObject, removeRegion}
+use Rattle.model.specs.Calls.{checks, refusal, accepted, next, nextBy, popFrame, addObject, removeRegions}
 use Rattle.model.specs.Valid.{Valid}
 use Rattle.model.specs.Moves.{weighs, moves, movesBy}
 use Rattle.model.specs.Laws.Passed.{passed}
 use Rattle.model.specs.Laws.Regions.{live-positive, not-removed}
 use Rattle.model.specs.Laws.Slots.{pop-valid}
+use Rattle.model.specs.Laws.Removable.{removable-one}
 use Rattle.model.specs.Laws.Grows.{made-valid}
 use Rattle.model.specs.Laws.Next.{accepted-valid}
 use Rattle.model.specs.Laws.Counts.{fill-stored, push-stored, pop-stored, write-stored, declare-stored, region-stored, object-stored, remove-stored}
@@ -40,7 +42,7 @@ module _ (L : Model) (r : ℕ) (v : Valid L) where
   positive c e l = live-positive ((accepted L c) .regions) r (accepted-valid L c v e .names .named) l
 
   pub accepted-stored : (c : Call) → refusal L c ≡ 0 → livesIn (accepted L c) r ≡ true → stored (accepted L c) r + (moves L c r) .1 ≡ stored L r + (moves L c r) .0
-  unfolding accepted moves checks removeRegion addObject
+  unfolding accepted moves checks removeRegions addObject
   accepted-stored (declare ms) e l = still _ (declare-stored L r v ms)
   accepted-stored newRegion e l = still _ (region-stored L r v 0 1)
   accepted-stored (subregion q) e l = still _ (region-stored L r v q ((region (L .regions) q) .level + 1))
@@ -64,9 +66,7 @@ module _ (L : Model) (r : ℕ) (v : Valid L) where
   accepted-stored (report q) e l = refl
   accepted-stored totals e l = refl
   accepted-stored audit e l = refl
-  accepted-stored (delete q) e l =
-      let t = passed L (delete q) e in
-      remove-stored L q r (not-false (livesIn L q) (t .0)) (eqb-sym q r ∙ not-removed (L .regions) q r l) v
+  accepted-stored (delete q) e l = remove-stored L v (q ∷ []) (removable-one L q e) r (not-removed (L .regions) (q ∷ []) r l)
 
   pub next-stored : (c : Call) → livesIn (next L c) r ≡ true → stored (next L c) r + (movesBy (refusal L c) L c r) .1 ≡ stored L r + (movesBy (refusal L c) L c r) .0
   unfolding next

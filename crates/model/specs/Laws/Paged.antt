@@ -1,36 +1,29 @@
 -- What make leaves is paged, and every call keeps a valid model paged. So no count of pointers passes 16,640.
 -- Assumes nothing.
-use mathlib.Core.Path.{_≡_, refl, sym, ap, _∙_, subst⁻¹, fun-ext}
-use mathlib.Core.Bool.{Bool, true, false, not, _&&_, _||_, false≢true}
+use mathlib.Core.Path.{_≡_, refl, ap, _∙_, subst⁻¹, fun-ext}
+use mathlib.Core.Bool.{Bool, true, false, not, _&&_}
 use mathlib.Core.List.{List, [], _∷_}
 use Prim.Native.Nat.{ℕ, zero, suc, _+_, _-_, _*_, _≤_}
 use native.Mathlib.Omega.{arith}
 use lib.Dec.{eqb}
 use lib.ListN.{length, getD, length-set, length-replicate}
-use borrow.Author.Tests.{eqb-true, eqb-false, ne-eqb, leb-true, ltb-false, not-false}
-use Rattle.lists.specs.Lists.{bit, pick, anyOf, sumOf, countOf, All}
+use borrow.Author.Tests.{eqb-false, ne-eqb, leb-true, not-false}
+use Rattle.lists.specs.Lists.{bit, pick, anyOf, sumOf, All, among}
 use Rattle.lists.specs.Laws.Tests.{eqb-sym}
 use Rattle.lists.specs.Laws.All.{all-map, all-at, all-append, all-change}
 use Rattle.lists.specs.Laws.Sums.{sum-append, sum-le, sum-most, sum-any, sum₂-most, count-most}
-use Rattle.lists.specs.Laws.Finds.{all-keep, any-count, sum-none, sum-without, sum-instead}
+use Rattle.lists.specs.Laws.Finds.{all-keep, sum-none, sum-instead}
 use Rattle.model.specs.Model.{Model, Object, Region, Call, declare, newRegion, subregion, push, dropFrame, handBack, allocate, first, copy, fetch, clear, load, setPointer, put, get, view, same, about, report, totals, audit, delete}
 use Rattle.model.specs.Model.{noRegion, called, live, region, object, marks, livesIn, homeIn, beneath, slot, inSlot, into, freeInto, fromObject, inWords, inFrames, wordPointers, outside, stored}
-use Rattle.model.specs.Calls.{checks, refusal, accepted, next, nextBy, after, fresh, size, fits, fillSlot, popFrame, writeWord, replaced, withWord, addRegion, grown, addObject, removeRegion, others}
-use Rattle.model.specs.Valid.{Valid, Distinct}
+use Rattle.model.specs.Calls.{checks, refusal, accepted, next, nextBy, after, fresh, size, fits, fillSlot, popFrame, writeWord, replaced, withWord, addRegion, grown, addObject, removeRegions, others}
+use Rattle.model.specs.Valid.{Valid}
 use Rattle.model.specs.Paged.{Paged, Lies, space, spaceOf}
 use Rattle.model.specs.Laws.Passed.{passed}
+use Rattle.model.specs.Laws.Regions.{distinct-one, sum-others}
 use Rattle.model.specs.Laws.Grows.{change}
+use Rattle.model.specs.Laws.Removable.{Removable, removable-one}
 use Rattle.model.specs.Laws.Next.{next-valid}
 use Rattle.model.specs.Laws.Counts.{outside-stored}
-
--- one region has a name that lives
-pub distinct-one : (gs : List Region) (r : ℕ) → Distinct gs → live gs r ≡ true → countOf (called r) gs ≡ 1
-distinct-one [] r d l = absurd (false≢true l)
-distinct-one (g ∷ gs) r d l = go (called r g) refl l (distinct-one gs r (d .1))
-  where
-    go : (b : Bool) → called r g ≡ b → (b || live gs r) ≡ true → (live gs r ≡ true → countOf (called r) gs ≡ 1) → bit b + countOf (called r) gs ≡ 1
-    go true q l h = omega (arith, ltb-false 0 (countOf (called r) gs) (sym (any-count (called r) gs) ∙ (rw (eqb-true (g .name) r q) at (d .0))))
-    go false q l h = omega (arith, h l)
 
 -- a word written: the object takes as many words as before
 space-replaced : (r : ℕ) (os : List Object) (q w x : ℕ) → sumOf (spaceOf r) (replaced os q (withWord (object os q) w x)) ≡ sumOf (spaceOf r) os
@@ -110,11 +103,11 @@ module _ {N : ℕ} (L : Model) (p : Paged N L) where
 
   -- ---- delete
 
-  remove-paged : Valid L → (r : ℕ) → livesIn L r ≡ true → Paged N (removeRegion L r)
-  unfolding removeRegion space
-  remove-paged v r l = record {
-    whole = omega (arith, p .whole, sum-without (called r) (λ g. g .pages) noRegion (L .regions) (distinct-one (L .regions) r (v .names .distinct) l));
-    fits = all-map (λ g h. h .0) (others (L .regions) r) (all-keep _ (λ g. not (called r g)) (L .regions) (p .fits));
+  pub remove-paged : Valid L → (rs : List ℕ) → Removable L rs → Paged N (removeRegions L rs)
+  unfolding removeRegions space
+  remove-paged v rs m = record {
+    whole = omega (arith, p .whole, sum-others (L .regions) rs (λ g. g .pages) (v .names .distinct) (m .distinct) (m .live));
+    fits = all-map (λ g h. h .0) (others (L .regions) rs) (all-keep _ (λ g. not (among (g .name) rs)) (L .regions) (p .fits));
   }
 
 -- ---- every call
@@ -144,7 +137,7 @@ accepted-paged L v p (about s) e = p
 accepted-paged L v p (report r) e = p
 accepted-paged L v p totals e = p
 accepted-paged L v p audit e = p
-accepted-paged L v p (delete r) e = remove-paged L p v r (not-false (livesIn L r) (passed L (delete r) e .0))
+accepted-paged L v p (delete r) e = remove-paged L p v (r ∷ []) (removable-one L r e)
 
 pub next-paged : {N : ℕ} (L : Model) → Valid L → Paged N L → (c : Call) → Paged N (next L c)
 unfolding next

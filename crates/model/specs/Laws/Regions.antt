@@ -9,11 +9,13 @@ use native.Mathlib.Omega.{arith}
 use lib.Dec.{eqb, leb}
 use lib.ListN.{length, getD, set, List·getD-append, List·getD-eq-default}
 use lib.Seq.{getD-append-seam}
-use borrow.Author.Tests.{eqb-true, eq-eqb, ne-eqb, ltb-false, leb-true, leb-false}
-use Rattle.lists.specs.Lists.{bit, pick, keep, countOf, All}
+use borrow.Author.Tests.{eqb-true, eq-eqb, ne-eqb, ltb-true, ltb-false, leb-true, leb-false}
+use Rattle.lists.specs.Lists.{bit, pick, keep, sumOf, countOf, All, times, among}
 use Rattle.lists.specs.Laws.Tests.{by-test, eqb-sym}
 use Rattle.lists.specs.Laws.All.{all-map, all-both}
-use Rattle.lists.specs.Laws.Finds.{any-append, find-append, find-passes, all-find, any-keep, any-thrown, find-keep, any-false, false-any, any-count, any-fewer}
+use Rattle.lists.specs.Laws.Sums.{sum-same}
+use Rattle.lists.specs.Laws.Finds.{any-append, find-append, find-passes, all-find, any-keep, any-thrown, find-keep, any-false, false-any, any-count, any-fewer, sum-one, sum-parted}
+use Rattle.lists.specs.Laws.Kept.{sum-members}
 use Rattle.model.specs.Model.{Object, Region, noObject, noRegion, called, live, region, homeOf, object}
 use Rattle.model.specs.Calls.{replaced, withWord, others}
 use Rattle.model.specs.Valid.{Distinct, levelOf}
@@ -38,7 +40,7 @@ pub level-is : (gs : List Region) (r : ℕ) → live gs 0 ≡ false → live gs 
 level-is gs zero z l = absurd (true≢false (sym l ∙ z))
 level-is gs (suc r) z l = refl
 
--- at most one region has a given name, and it is the one found under its name
+-- at most one region has a given name, one has a name that lives, and it is the one found under its name
 pub distinct-once : (gs : List Region) → Distinct gs → (r : ℕ) → countOf (called r) gs ≤ 1
 distinct-once [] d r = omega arith
 distinct-once (x ∷ xs) d r = go (eqb (x .name) r) refl (distinct-once xs (d .1) r)
@@ -46,6 +48,9 @@ distinct-once (x ∷ xs) d r = go (eqb (x .name) r) refl (distinct-once xs (d .1
     go : (b : Bool) → eqb (x .name) r ≡ b → countOf (called r) xs ≤ 1 → bit b + countOf (called r) xs ≤ 1
     go true e h = omega (arith, ltb-false 0 (countOf (called r) xs) (sym (any-count (called r) xs) ∙ ap (live xs) (sym (eqb-true (x .name) r e)) ∙ d .0))
     go false e h = omega arith
+
+pub distinct-one : (gs : List Region) (r : ℕ) → Distinct gs → live gs r ≡ true → countOf (called r) gs ≡ 1
+distinct-one gs r d l = omega (arith, distinct-once gs d r, ltb-true 0 (countOf (called r) gs) (sym (any-count (called r) gs) ∙ l))
 
 pub found-itself : (gs : List Region) → Distinct gs → All (λ g. region gs (g .name) ≡ g) gs
 found-itself [] d = tt
@@ -107,28 +112,37 @@ module _ (f : Region → Region) (k : (g : Region) → (f g) .name ≡ g .name) 
   level-map m gs zero = refl
   level-map m gs (suc r) = find-map (λ x. x .level) m gs (suc r)
 
--- ---- region r taken out
+-- ---- the regions that rs names taken out
 
-module _ (gs : List Region) (r : ℕ) where
-  kept : (q : ℕ) → eqb q r ≡ false → (x : Region) → called q x ≡ true → not (called r x) ≡ true
+module _ (gs : List Region) (rs : List ℕ) where
+  kept : (q : ℕ) → among q rs ≡ false → (x : Region) → called q x ≡ true → not (among (x .name) rs) ≡ true
   kept q n x e = rw (eqb-true (x .name) q e, n)
 
-  pub live-others : (q : ℕ) → eqb q r ≡ false → live (others gs r) q ≡ live gs q
-  live-others q n = any-keep (called q) (λ g. not (called r g)) (kept q n) gs
+  pub live-others : (q : ℕ) → among q rs ≡ false → live (others gs rs) q ≡ live gs q
+  live-others q n = any-keep (called q) (λ g. not (among (g .name) rs)) (kept q n) gs
 
-  pub region-others : (q : ℕ) → eqb q r ≡ false → region (others gs r) q ≡ region gs q
-  region-others q n = find-keep (called q) (λ g. not (called r g)) noRegion (kept q n) gs
+  pub region-others : (q : ℕ) → among q rs ≡ false → region (others gs rs) q ≡ region gs q
+  region-others q n = find-keep (called q) (λ g. not (among (g .name) rs)) noRegion (kept q n) gs
 
-  pub level-others : (q : ℕ) → eqb q r ≡ false → levelOf (others gs r) q ≡ levelOf gs q
+  pub level-others : (q : ℕ) → among q rs ≡ false → levelOf (others gs rs) q ≡ levelOf gs q
   level-others zero n = refl
   level-others (suc q) n = ap (λ x. x .level) (region-others (suc q) n)
 
-  pub live-removed : live (others gs r) r ≡ false
-  live-removed = any-thrown (called r) (λ g. not (called r g)) (λ x e. rw e) gs
+  pub live-removed : (q : ℕ) → among q rs ≡ true → live (others gs rs) q ≡ false
+  live-removed q m = any-thrown (called q) (λ g. not (among (g .name) rs)) (λ x e. rw (eqb-true (x .name) q e, m)) gs
 
-  -- what lives afterwards is another
-  pub not-removed : (q : ℕ) → live (others gs r) q ≡ true → eqb q r ≡ false
-  not-removed q l = by-test (eqb q r) (λ e. absurd (true≢false (sym l ∙ ap (live (others gs r)) (eqb-true q r e) ∙ live-removed))) (λ e. e)
+  -- what lives afterwards is no member, and lived before
+  pub not-removed : (q : ℕ) → live (others gs rs) q ≡ true → among q rs ≡ false
+  not-removed q l = by-test (among q rs) (λ e. absurd (true≢false (sym l ∙ live-removed q e))) (λ e. e)
+
+  pub lived-before : (q : ℕ) → live (others gs rs) q ≡ true → live gs q ≡ true
+  lived-before q l = sym (live-others q (not-removed q l)) ∙ l
+
+  -- what is added up over all regions: over those that are left, and over the members, which live and are named once
+  pub sum-others : (f : Region → ℕ) → Distinct gs → ((q : ℕ) → times q rs ≤ 1) → All (λ r. live gs r ≡ true) rs → sumOf f (others gs rs) + sumOf (λ r. f (region gs r)) rs ≡ sumOf f gs
+  sum-others f d once l =
+      let found = sum-same _ _ rs (all-map (λ r k. sum-one (called r) f noRegion gs (distinct-one gs r d k)) rs l) in
+      ap (λ n. sumOf f (others gs rs) + n) (sym found ∙ sum-members (λ g. g .name) f gs rs once) ∙ sum-parted (λ g. among (g .name) rs) f gs
 
 pub distinct-keep : (f : Region → Bool) (gs : List Region) → Distinct gs → Distinct (keep f gs)
 distinct-keep f [] d = tt
