@@ -132,6 +132,10 @@ module _ {A : Type 0} where
   every-same f g [] h = refl
   every-same f g (x ∷ xs) h = ap₂ _&&_ (h .0) (every-same f g xs (h .1))
 
+  pub any-same : (f g : A → Bool) (l : List A) → All (λ x. f x ≡ g x) l → anyOf f l ≡ anyOf g l
+  any-same f g [] h = refl
+  any-same f g (x ∷ xs) h = ap₂ _||_ (h .0) (any-same f g xs (h .1))
+
   -- an element that passes
   pub any-in : (f : A → Bool) (l : List A) (i : ℕ) (d : A) → i < length l → f (getD l i d) ≡ true → anyOf f l ≡ true
   any-in f l i d h e = by-test (anyOf f l) (λ t. t) (λ t. absurd (true≢false (sym e ∙ all-in (λ x. f x ≡ false) l i d (any-false f l t) h)))

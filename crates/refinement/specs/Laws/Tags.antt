@@ -3,17 +3,18 @@
 use mathlib.Core.Path.{_≡_, refl, sym, ap, _∙_, fun-ext}
 use mathlib.Core.Logic.{_⊎_, inl, inr, _≢_}
 use mathlib.Core.Bool.{Bool, true, false, not, _&&_, _||_, true≢false}
-use mathlib.Core.List.{List}
-use Prim.Native.Nat.{ℕ, zero, suc, _<_}
+use mathlib.Core.List.{List, map}
+use Prim.Native.Nat.{ℕ, zero, suc, _<_, _≤_}
 use native.Mathlib.Omega.{arith}
 use lib.Dec.{eqb, ltb}
 use lib.ListN.{length}
-use borrow.Author.Tests.{eqb-true, eqb-false, eq-eqb, ne-eqb, lt-ltb}
-use Rattle.lists.specs.Lists.{bit, pick, anyOf, sumOf, countOf, upTo}
+use borrow.Author.Tests.{eqb-true, eqb-false, eq-eqb, ne-eqb, lt-ltb, ltb-false}
+use Rattle.lists.specs.Lists.{bit, pick, anyOf, sumOf, countOf, All, upTo, times, among}
 use Rattle.lists.specs.Laws.Tests.{by-test, by-same}
-use Rattle.lists.specs.Laws.All.{all-map}
-use Rattle.lists.specs.Laws.Sums.{sum-same, sum-ones, sum-pick}
-use Rattle.lists.specs.Laws.Finds.{any-count, find-none, all-find}
+use Rattle.lists.specs.Laws.All.{all-map, all-both, all-change}
+use Rattle.lists.specs.Laws.Sums.{sum-same, sum-map, sum-ones, sum-pick}
+use Rattle.lists.specs.Laws.Finds.{any-map, any-same, false-any, any-count, find-none, all-find}
+use Rattle.lists.specs.Laws.Kept.{all-each, among-self, all-among}
 use Rattle.lists.specs.Laws.UpTo.{any-one, one-passes, sum-below}
 use Rattle.model.specs.Model.{Model, noRegion, called, livesIn, parentIn, subregions}
 use Rattle.model.specs.Valid.{Valid}
@@ -103,6 +104,29 @@ module _ {L : Model} {sp : List ℕ} {g : Regions} (a : RegionsAgree L sp g) whe
   pub tag-injective : (r q : ℕ) → livesIn L r ≡ true → livesIn L q ≡ true → tagOf g r ≡ tagOf g q → r ≡ q
   tag-injective r q l m e = sym (tag-name r l) ∙ ap (nameOf g) e ∙ tag-name q m
 
+  -- ---- several live regions
+
+  module _ (rs : List ℕ) (ls : All (λ r. livesIn L r ≡ true) rs) where
+    -- a live region is one of them where its tag is one of theirs
+    pub tag-among : (q : ℕ) → livesIn L q ≡ true → among (tagOf g q) (map (tagOf g) rs) ≡ among q rs
+    tag-among q l = any-map (λ t. eqb t (tagOf g q)) (tagOf g) rs ∙ any-same _ _ rs (all-map (λ r k. tag-same r q k l) rs ls)
+
+    pub zero-tag : among 0 (map (tagOf g) rs) ≡ false
+    zero-tag = any-map (λ t. eqb t 0) (tagOf g) rs ∙ false-any _ rs (all-each _ (λ r. ne-eqb (tagOf g r) 0 (tag-some g r)) rs)
+
+    pub tags-once : ((q : ℕ) → times q rs ≤ 1) → (t : ℕ) → times t (map (tagOf g) rs) ≤ 1
+    tags-once once t = by-test (among t (map (tagOf g) rs))
+        (all-among (λ t. times t (map (tagOf g) rs) ≤ 1) (map (tagOf g) rs) (all-change _ _ (tagOf g) own rs ls) t)
+        (λ e. omega (arith, ltb-false 0 (times t (map (tagOf g) rs)) (sym (any-count (λ x. eqb x t) (map (tagOf g) rs)) ∙ e)))
+      where
+        own : (r : ℕ) → livesIn L r ≡ true → times (tagOf g r) (map (tagOf g) rs) ≤ 1
+        own r l = rw (sum-map (λ t. bit (eqb t (tagOf g r))) (tagOf g) rs ∙ sum-same _ (λ q. bit (eqb q r)) rs (all-map (λ q k. ap bit (tag-same q r k l)) rs ls)) (once r)
+
+    -- an entry of one of them has its name
+    pub name-among : (i : ℕ) → among i (map (entryOf g) rs) ≡ true → among (nameAt g i) rs ≡ true
+    name-among = all-among (λ i. among (nameAt g i) rs ≡ true) (map (entryOf g) rs)
+        (all-change _ _ (entryOf g) (λ r h. rw (entry-name r (h .0)) (h .1)) rs (all-both _ _ rs ls (among-self rs)))
+
   -- ---- entries in use
 
   pub entry-live : (i : ℕ) → i < 64 → nameAt g i ≢ 0 → livesIn L (nameAt g i) ≡ true
@@ -128,6 +152,14 @@ module _ {L : Model} {sp : List ℕ} {g : Regions} (a : RegionsAgree L sp g) whe
         let l = entry-live i h n in
         one-passes (holds g r) 64 i (entryOf g r) (rw (entries-named r n) (distinct-once (L .regions) (v .names .distinct) r)) h (entry-in r l)
         (eq-eqb r r refl) (eq-eqb (nameAt g (entryOf g r)) r (entry-name r l))
+
+    pub entry-among : (rs : List ℕ) → All (λ r. livesIn L r ≡ true) rs → (i : ℕ) → i < 64 → among i (map (entryOf g) rs) ≡ among (nameAt g i) rs
+    entry-among rs ls i h = any-map (λ e. eqb e i) (entryOf g) rs ∙ any-same _ _ rs (all-map same rs ls)
+      where
+        same : (r : ℕ) → livesIn L r ≡ true → eqb (entryOf g r) i ≡ eqb r (nameAt g i)
+        same r l = by-test (eqb r (nameAt g i))
+            (λ e. let d = eqb-true r (nameAt g i) e in rw e (eq-eqb (entryOf g r) i (ap (entryOf g) d ∙ entry-own i h (λ z. live-named r l (d ∙ z)))))
+            (λ e. rw e (ne-eqb (entryOf g r) i (λ d. eqb-false r (nameAt g i) e (sym (entry-name r l) ∙ ap (nameAt g) d))))
 
     pub parent-known : (r : ℕ) → Named L (parentIn L r)
     parent-known r = all-find (λ x. Named L (x .parent)) (called r) noRegion (L .regions) (all-map (λ x p. p .parent) (L .regions) (v .parents)) refl
