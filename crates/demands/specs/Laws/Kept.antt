@@ -6,10 +6,9 @@ use mathlib.Core.List.{List, [], _∷_, _++_, map}
 use Prim.Native.Nat.{ℕ, zero, suc, _+_, _-_, _≤_}
 use native.Mathlib.Numerals.{add-one}
 use native.Mathlib.Omega.{arith}
-use lib.Dec.{eqb, ltb, leb}
+use lib.Dec.{ltb, leb}
 use lib.ListN.{length, getD, set, take, replicate, length-append, length-replicate, length-set, List·getD-append, List·getD-map}
 use lib.Seq.{map-set-same, getD-append-seam}
-use borrow.Author.Tests.{eqb-true, eq-eqb}
 use Rattle.lists.specs.Lists.{pick, sumOf, from, among}
 use Rattle.lists.specs.Laws.Tests.{by-test, pick-same}
 use Rattle.lists.specs.Laws.All.{all-map, all-at}
