@@ -2,36 +2,43 @@
 -- Assumes nothing.
 use mathlib.Core.Path.{_≡_, refl, sym, ap, _∙_, fun-ext}
 use mathlib.Core.Logic.{_⊎_, inl, inr, _≢_}
-use mathlib.Core.Bool.{Bool, true, false, not}
+use mathlib.Core.Bool.{Bool, true, false, not, _&&_, true≢false}
 use mathlib.Core.List.{List, [], _∷_, _++_, map, append-nil}
 use Prim.Native.Nat.{ℕ, zero, suc, _+_, _/_, _≤_, _<_}
+use native.Mathlib.Nat.{add-zero}
 use native.Mathlib.Omega.{arith}
-use lib.Dec.{eqb}
+use lib.Dec.{eqb, ltb}
 use lib.ListN.{length, set}
 use lib.Seq.{getD-set-other}
-use borrow.Author.Tests.{eqb-false, eq-eqb, ne-eqb}
-use Rattle.lists.specs.Lists.{bit, pick, every, keep, sumOf, times, among}
-use Rattle.lists.specs.Laws.Tests.{by-test, by-same, pick-same}
-use Rattle.lists.specs.Laws.Sums.{sum-append, sum-map, sum-keep}
-use Rattle.lists.specs.Laws.Finds.{times-keep, keep-append, map-append}
+use borrow.Author.Tests.{eq-eqb, ne-eqb, ltb-true}
+use Rattle.lists.specs.Lists.{bit, pick, every, keep, sumOf, All, joined, times, among}
+use Rattle.lists.specs.Laws.Tests.{by-test, by-same, pick-same, eqb-sym}
+use Rattle.lists.specs.Laws.Sums.{sum-append, sum-nothing, sum-map, sum-joined, sum-keep}
+use Rattle.lists.specs.Laws.Finds.{any-count, times-keep, keep-append, map-append}
 use Rattle.model.specs.Model.{Model, region, livesIn}
 use Rattle.regions.specs.declared.Regions.{Regions}
-use Rattle.regions.specs.Regions.{nameAt, entryOf, tagOf}
+use Rattle.regions.specs.Regions.{nameAt, entryOf, tagOf, clearedAt}
+use Rattle.regions.specs.Laws.Removed.{cleared-at}
 use Rattle.pages.specs.declared.Pages.{Pages}
 use Rattle.pages.specs.Pages.{ownerAt, withTaken, freed, ownersTo}
 use Rattle.pages.specs.Laws.Taken.{owner-here, owner-else}
 use Rattle.pages.specs.Laws.Gone.{gone-owner}
 use Rattle.outcomes.specs.History.{History, Holding, holders}
 use Rattle.refinement.specs.Represents.{RegionsAgree, Owned, PagesAgree}
-use Rattle.refinement.specs.Laws.Tags.{entry-name, live-named, tag-some, tag-same, tag-injective}
+use Rattle.refinement.specs.Laws.Tags.{entry-name, live-named, tag-some, tag-among, name-among}
 use Rattle.refinement.specs.Laws.Reads.{page-count}
 use Rattle.demands.specs.Told.{objectMade, pagesHeldBy, ended}
-use Rattle.histories.specs.Laws.TellsPages.{holding, TellsPages, holding-tag, heldBy, held-else}
+use Rattle.histories.specs.Laws.TellsPages.{holding, TellsPages, holding-tag, heldBy, held-kept}
 
 -- a name written at another entry
 holding-else : (names : List ℕ) (i x t : ℕ) → t ≢ i + 1 → holding (set names i x) t ≡ holding names t
 holding-else names i x zero n = refl
 holding-else names i x (suc k) n = ap (λ m. m ∷ []) (getD-set-other names i k x 0 (λ e. n (omega arith)))
+
+-- the entries es given up, of which this owner's is none
+holding-left : (names es : List ℕ) (t : ℕ) → ((i : ℕ) → t ≡ i + 1 → among i es ≡ false) → holding (clearedAt names es) t ≡ holding names t
+holding-left names es zero n = refl
+holding-left names es (suc k) n = ap (λ m. m ∷ []) (cleared-at names es k ∙ rw (n k (omega arith)))
 
 -- how often r holds page j, by its pages
 times-held : (j r : ℕ) (l : List Holding) → times j (map (λ t. t .page) (keep (λ t. eqb (t .region) r) l)) ≡ times r (heldBy j l)
@@ -65,36 +72,60 @@ module _ {L : Model} {sp : List ℕ} {h : History} {g : Regions} {p : Pages} {wo
           let d : entryOf g r ≡ i = omega arith in
           live-named ra r l (sym (entry-name ra r l) ∙ ap (nameAt g) d ∙ z)
 
-  module _ (r : ℕ) (lr : livesIn L r ≡ true) where
-    -- ---- delete
+  -- ---- delete, of several regions that live, each named once
 
-    ended-free : (j : ℕ) → times j ((ended h r) .free) ≡ times j (h .free) + pick (every (λ q. eqb q r) (holders h j)) (times r (holders h j)) 0
+  module _ (rs : List ℕ) (ls : All (λ r. livesIn L r ≡ true) rs) (once : (q : ℕ) → times q rs ≤ 1) where
+    -- how often a page is freed that these hold: once for each of them that holds it, if no other does
+    abbrev freeings : List ℕ → ℕ
+    freeings qs = pick (every (λ q. among q rs) qs) (sumOf (λ r. times r qs) rs) 0
+
+    freeings-none : freeings [] ≡ 0
+    freeings-none = sum-nothing (λ r. 0) (λ r. refl) rs
+
+    freeings-one : (q : ℕ) → freeings (q ∷ []) ≡ bit (among q rs)
+    freeings-one q = ap (λ f. pick (among q rs && true) (sumOf f rs) 0) (fun-ext (λ r. add-zero (bit (eqb q r)) ∙ ap bit (eqb-sym q r))) ∙ go (among q rs) (any-count (λ r. eqb r q) rs)
+      where
+        go : (b : Bool) → b ≡ ltb 0 (times q rs) → pick (b && true) (times q rs) 0 ≡ bit b
+        go true e = omega (arith, once q, ltb-true 0 (times q rs) (sym e))
+        go false e = refl
+
+    ended-free : (j : ℕ) → times j ((ended h rs) .free) ≡ times j (h .free) + freeings (holders h j)
     unfolding ended
     ended-free j =
-        let alone : ℕ → Bool = λ j. every (λ q. eqb q r) (holders h j) in
-        sum-append (λ x. bit (eqb x j)) (h .free) (keep alone (pagesHeldBy h r)) ∙ ap (λ n. times j (h .free) + n) (times-keep j alone (pagesHeldBy h r) ∙ ap (λ n. pick (alone j) n 0) (times-held j r (h .held)))
+        let alone : ℕ → Bool = λ j. every (λ q. among q rs) (holders h j) in
+        sum-append (λ x. bit (eqb x j)) (h .free) (keep alone (joined (pagesHeldBy h) rs))
+        ∙ ap (λ n. times j (h .free) + n) (times-keep j alone (joined (pagesHeldBy h) rs)
+        ∙ ap (λ n. pick (alone j) n 0) (sum-joined (λ x. bit (eqb x j)) (pagesHeldBy h) rs ∙ ap (λ f. sumOf f rs) (fun-ext (λ r. times-held j r (h .held)))))
 
-    other-tag : (q : ℕ) → eqb q r ≡ false → livesIn L q ≡ true → tagOf g q ≢ entryOf g r + 1
+    other-entry : (q : ℕ) → among q rs ≡ false → livesIn L q ≡ true → (i : ℕ) → tagOf g q ≡ i + 1 → among i (map (entryOf g) rs) ≡ false
     unfolding tagOf
-    other-tag q e lq z = eqb-false q r e (tag-injective ra q r lq lr z)
+    other-entry q n lq i z =
+        let d : i ≡ entryOf g q = omega arith in
+        by-test (among i (map (entryOf g) rs)) (λ e. absurd (true≢false (sym (name-among ra rs ls i e) ∙ ap (λ x. among x rs) (ap (nameAt g) d ∙ entry-name ra q lq) ∙ n))) (λ e. e)
 
     ended-page : (j : ℕ) → j < p .made → Owned L g p j
-        → (times j ((ended h r) .free) ≡ bit (eqb (ownerAt (freed p (tagOf g r)) j) 0)) × (keep (λ q. not (eqb q r)) (holders h j) ≡ holding (set (g .names) (entryOf g r) 0) (ownerAt (freed p (tagOf g r)) j))
+        → let o = ownerAt (freed p (map (tagOf g) rs)) j in
+        (times j ((ended h rs) .free) ≡ bit (eqb o 0)) × (keep (λ q. not (among q rs)) (holders h j) ≡ holding (clearedAt (g .names) (map (entryOf g) rs)) o)
     ended-page j l (inl o) =
-        rw (ended-free j, gone-owner p (tagOf g r) j (omega (arith, page-count pa)), u .free j l, u .held j l, o, pick-same {A = ℕ} (eqb 0 (tagOf g r)) 0) (refl, refl)
+        rw (ended-free j, gone-owner p (map (tagOf g) rs) j (omega (arith, page-count pa)), u .free j l, u .held j l, o, pick-same {A = ℕ} (among 0 (map (tagOf g) rs)) 0) (omega (arith, freeings-none), refl)
     ended-page j l (inr (q, lq, o)) =
-        rw (ended-free j, gone-owner p (tagOf g r) j (omega (arith, page-count pa)), u .free j l, u .held j l, o, holding-tag ra q lq, tag-same ra q r lq lr, ne-eqb (tagOf g q) 0 (tag-some g q))
-        (by-test (eqb q r) (λ e. rw e (refl, refl)) (λ e. rw (e, ne-eqb (tagOf g q) 0 (tag-some g q)) (refl, sym (holding-else (g .names) (entryOf g r) 0 (tagOf g q) (other-tag q e lq) ∙ holding-tag ra q lq))))
+        rw (ended-free j, gone-owner p (map (tagOf g) rs) j (omega (arith, page-count pa)), u .free j l, u .held j l, o, holding-tag ra q lq, tag-among ra rs ls q lq, ne-eqb (tagOf g q) 0 (tag-some g q), freeings-one q)
+        (by-test (among q rs) (λ e. rw e (refl, refl))
+        (λ e. rw (e, ne-eqb (tagOf g q) 0 (tag-some g q)) (refl, sym (holding-left (g .names) (map (entryOf g) rs) (tagOf g q) (other-entry q e lq) ∙ holding-tag ra q lq))))
 
-    pub ended-pages : TellsPages (ended h r) (set (g .names) (entryOf g r) 0) (freed p (tagOf g r))
+    pub ended-pages : TellsPages (ended h rs) (clearedAt (g .names) (map (entryOf g) rs)) (freed p (map (tagOf g) rs))
     unfolding ended freed ownersTo ownerAt
     ended-pages = record {
       pages = u .pages;
       free = λ j l. ended-page j l (pa .owned j l) .0;
-      held = λ j l. held-else j r (h .held) ∙ ended-page j l (pa .owned j l) .1;
-      none = λ j l. (ended-free j ∙ rw (u .none j l .0, u .none j l .1), held-else j r (h .held) ∙ ap (keep (λ q. not (eqb q r))) (u .none j l .1));
+      held = λ j l. held-kept j (λ q. not (among q rs)) (h .held) ∙ ended-page j l (pa .owned j l) .1;
+      none = λ j l. (
+        ended-free j ∙ rw (u .none j l .0, u .none j l .1) (omega (arith, freeings-none)),
+        held-kept j (λ q. not (among q rs)) (h .held) ∙ ap (keep (λ q. not (among q rs))) (u .none j l .1),
+      );
     }
 
+  module _ (r : ℕ) (lr : livesIn L r ≡ true) where
     -- ---- allocate
 
     module _ (k n x : ℕ) (room : x / 64 < length (p .owners)) (made : x / 64 < p .made) where

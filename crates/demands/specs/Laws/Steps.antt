@@ -2,7 +2,7 @@
 -- Assumes nothing.
 use mathlib.Core.Path.{_≡_, refl, sym, ap, ap₂, _∙_, subst, subst⁻¹}
 use mathlib.Core.Bool.{false}
-use mathlib.Core.List.{List, [], _∷_, _++_}
+use mathlib.Core.List.{List, [], _∷_, _++_, map}
 use Prim.Native.Nat.{ℕ, zero, suc, _+_, _-_, _*_, _/_, _≤_, _<_}
 use native.Mathlib.Numerals.{add-one}
 use native.Mathlib.Omega.{arith}
@@ -16,10 +16,11 @@ use Rattle.model.specs.Calls.{checks, refusal, noFrame, lacks, reply, accepted,
 use Rattle.model.specs.Valid.{Valid}
 use Rattle.model.specs.Paged.{Paged}
 use Rattle.model.specs.Laws.Passed.{passed}
+use Rattle.model.specs.Laws.Removable.{removable-one}
 use Rattle.model.specs.Laws.Next.{next-valid}
 use Rattle.model.specs.Laws.Paged.{next-paged, stored-bound, outside-bound}
 use Rattle.frames.specs.Frames.{topFrame, slotAt, putSlot}
-use Rattle.regions.specs.Regions.{entryOf, tagOf, unused, withRegion, withoutRegion, withPage}
+use Rattle.regions.specs.Regions.{entryOf, tagOf, unused, withRegion, clearedAt, withoutRegions, withPage}
 use Rattle.regions.specs.Laws.Recount.{recount-beside}
 use Rattle.pages.specs.Pages.{takenAt, withTaken}
 use Rattle.outcomes.specs.Store.{Store, frames, regions, pages, roomy, size}
@@ -65,9 +66,9 @@ pointed-names : (S : Store) (v w x : ℕ) → (regions (pointed S v w x)) .names
 unfolding pointed writeWord recounted
 pointed-names S v w x = recount-beside _ _ _ .names
 
-deleted-names : (S : Store) (r : ℕ) → (regions (deleted S r)) .names ≡ set ((regions S) .names) (entryOf (regions S) r) 0
-unfolding deleted recounted withoutRegion
-deleted-names S r = ap (λ l. set l (entryOf (regions S) r) 0) (recount-beside _ _ _ .names)
+deleted-names : (S : Store) (rs : List ℕ) → (regions (deleted S rs)) .names ≡ clearedAt ((regions S) .names) (map (entryOf (regions S)) rs)
+unfolding deleted recounted withoutRegions
+deleted-names S rs = ap (λ l. clearedAt l (map (entryOf (regions S)) rs)) (recount-beside _ _ _ .names)
 
 -- ---- allocate: what the slot then shows
 
@@ -142,7 +143,7 @@ module _ {N : ℕ} {L : Model} {S : Store} {h : History} (k : Told N L S h) (a :
       )
 
   accepted-told : (c : Call) → refusal L c ≡ 0 → Accepted c S a T → After c T
-  unfolding Accepted accepted told fillSlot popFrame pointed writeWord recounted withRegion withoutRegion deleted popped born reply checks
+  unfolding Accepted accepted told fillSlot popFrame pointed writeWord recounted withRegion withoutRegions deleted popped born reply checks
   accepted-told (declare ms) e q = stays (declare ms) (declare-step L _ _ S v sh rep ms e a T q) (declare-told t ms) (rw (q .1) (same-pages refl refl refl u))
   accepted-told newRegion e q =
       let n = new-step L _ _ S v sh rep e a T q in
@@ -169,8 +170,9 @@ module _ {N : ℕ} {L : Model} {S : Store} {h : History} (k : Told N L S h) (a :
   accepted-told totals e q = stays totals (totals-step L _ _ S v rep a T q) t (rw (q .1) u)
   accepted-told audit e q = stays audit (q .0 .0 (audited S v rep sh), rw (q .1) rep) t (rw (q .1) u)
   accepted-told (delete r) e q =
-      stays (delete r) (delete-step L _ _ S v rep a T r sh (outside-bound L v (g .paged) (g .few)) e q) (remove-told t r)
-      (rw (q .1, deleted-names S r) (ended-pages (rep .onRegions) (rep .onPages) u r (not-false (livesIn L r) (passed L (delete r) e .0))))
+      let m = removable-one L r e in
+      stays (delete r) (delete-step L _ _ S v rep a T r sh (outside-bound L v (g .paged) (g .few)) e q) (remove-told t (r ∷ []))
+      (rw (q .1, deleted-names S (r ∷ [])) (ended-pages (rep .onRegions) (rep .onPages) u (r ∷ []) (m .live) (m .distinct)))
 
 -- ---- any call
 

@@ -50,16 +50,17 @@ holding-tag {L} {sp} {g} a r l = ap (holding (g .names)) (add-one _) ∙ ap (λ 
 abbrev pub heldBy : ℕ → List Holding → List ℕ
 heldBy j l = map (λ t. t .region) (keep (λ t. eqb (t .page) j) l)
 
-pub held-else : (j r : ℕ) (l : List Holding) → heldBy j (keep (λ t. not (eqb (t .region) r)) l) ≡ keep (λ q. not (eqb q r)) (heldBy j l)
-held-else j r [] = refl
-held-else j r (x ∷ xs) = go (eqb (x .region) r) refl (eqb (x .page) j) refl (held-else j r xs)
+-- the holdings of the regions that pass, and those of the holders that do
+pub held-kept : (j : ℕ) (f : ℕ → Bool) (l : List Holding) → heldBy j (keep (λ t. f (t .region)) l) ≡ keep f (heldBy j l)
+held-kept j f [] = refl
+held-kept j f (x ∷ xs) = go (f (x .region)) refl (eqb (x .page) j) refl (held-kept j f xs)
   where
-    go : (a : Bool) → eqb (x .region) r ≡ a → (b : Bool) → eqb (x .page) j ≡ b → heldBy j (keep (λ t. not (eqb (t .region) r)) xs) ≡ keep (λ q. not (eqb q r)) (heldBy j xs)
-        → heldBy j (pick (not a) (x ∷ keep (λ t. not (eqb (t .region) r)) xs) (keep (λ t. not (eqb (t .region) r)) xs)) ≡ keep (λ q. not (eqb q r)) (map (λ t. t .region) (pick b (x ∷ keep (λ t. eqb (t .page) j) xs) (keep (λ t. eqb (t .page) j) xs)))
-    go true p true q e = rw p e
-    go true p false q e = e
-    go false p true q e = rw (q, p) (ap (λ l. x .region ∷ l) e)
-    go false p false q e = rw q e
+    go : (a : Bool) → f (x .region) ≡ a → (b : Bool) → eqb (x .page) j ≡ b → heldBy j (keep (λ t. f (t .region)) xs) ≡ keep f (heldBy j xs)
+        → heldBy j (pick a (x ∷ keep (λ t. f (t .region)) xs) (keep (λ t. f (t .region)) xs)) ≡ keep f (map (λ t. t .region) (pick b (x ∷ keep (λ t. eqb (t .page) j) xs) (keep (λ t. eqb (t .page) j) xs)))
+    go true p true q e = rw (q, p) (ap (λ l. x .region ∷ l) e)
+    go true p false q e = rw q e
+    go false p true q e = rw p e
+    go false p false q e = e
 
 -- each number below n stands once in the list of them, and no other
 times-upTo : (n j : ℕ) → j < n → times j (upTo n) ≡ 1
@@ -92,11 +93,11 @@ begin-pages {L} S ra pa = record {
   free = λ j l.
       let b : j < pageCount (pages S) = omega (arith, page-count pa) in
       times-keep j (isFree (pages S)) (upTo n) ∙ rw (lt-ltb j n b, times-upTo n j b) (sym (pick-bit (eqb (ownerAt (pages S) j) 0)));
-  held = λ j l. held-else j 0 (map (entered holder) (upTo n)) ∙ rw (held-one holder 0 n j (omega arith) (omega (arith, page-count pa))) (go j (pa .owned j l));
+  held = λ j l. held-kept j (λ q. not (eqb q 0)) (map (entered holder) (upTo n)) ∙ rw (held-one holder 0 n j (omega arith) (omega (arith, page-count pa))) (go j (pa .owned j l));
   none = λ j l.
       let b : n ≤ j = omega (arith, page-count pa) in (
         times-keep j (isFree (pages S)) (upTo n) ∙ rw (times-past n j b) (pick-same {A = ℕ} (isFree (pages S) j) 0),
-        held-else j 0 (map (entered holder) (upTo n)) ∙ rw (held-none holder 0 n j (λ i x y e. omega arith)),
+        held-kept j (λ q. not (eqb q 0)) (map (entered holder) (upTo n)) ∙ rw (held-none holder 0 n j (λ i x y e. omega arith)),
       );
 }
   where
