@@ -1,4 +1,4 @@
--- Delete: what an accepted delete leaves represents the model without the region. Its refusals are in Refusals.
+-- Delete: what is left once the regions of a list go represents the model without them; an accepted delete is the list of one. Its refusals are in Refusals.
 -- Assumes nothing.
 use mathlib.Core.Path.{_≡_, refl, sym, ap, ap₂, _∙_, fun-ext}
 use mathlib.Core.Logic.{_⊎_, inl, inr, _≢_}
@@ -259,9 +259,9 @@ module _ {L : Model} {sp : List ℕ} {ids : ℕ → List ℕ} (S : Store) (v : V
       bound : (x f s n d o : ℕ) → x + f ≡ s + n → n ≤ d → o ≡ s + d → o ≤ 16640 → x < 4294967296
       bound x f s n d o a b c e = omega arith
 
--- the regions g without the entries es, the pages of the regions with the tags ts free, m raised
-abbrev without : Store → Regions → List ℕ → List ℕ → Store
-without S g es ts = withFrames (withPages (withRegions S (withoutRegions g es)) (freed (pages S) ts)) (raised (frames S))
+-- the regions g without those that rs names, known by the entries and tags that e and t give, their pages free, m raised
+abbrev without : Store → Regions → List ℕ → (ℕ → ℕ) → (ℕ → ℕ) → Store
+without S g rs e t = withFrames (withPages (withRegions S (withoutRegions g (map e rs))) (freed (pages S) (map t rs))) (raised (frames S))
 
 -- regions that may go together: what is left of the store represents what is left of the model
 pub deleted-represents : (L : Model) (sp : List ℕ) (ids : ℕ → List ℕ) (S : Store) → Valid L → Represents L sp ids S → (rs : List ℕ) → Removable L rs → ((q : ℕ) → outside L q ≤ 16640)
@@ -275,8 +275,7 @@ deleted-represents L sp ids S v h rs m small =
     let p = pages-kept L (L .kinds) (L .frames) (L .counted) (L .objects) b (pages S) (length (S .heap)) (h .onPages) in
     let o = objects-kept L (L .frames) (L .counted) b (h .onObjects) in
     -- by the entries and tags beside the new counts, which are the same
-    let same : without S now (map (entryOf (regions S)) rs) (map (tagOf (regions S)) rs) ≡ without S now (map (entryOf now) rs) (map (tagOf now) rs) =
-        sym (ap₂ (λ f t. without S now (map f rs) (map t rs)) (fun-ext (same-entry b)) (fun-ext (same-tag b))) in
+    let same : without S now rs (entryOf (regions S)) (tagOf (regions S)) ≡ without S now rs (entryOf now) (tagOf now) = sym (ap₂ (without S now rs) (fun-ext (same-entry b)) (fun-ext (same-tag b))) in
     rw same (record {
       onFrames = frames-raised (h .onFrames);
       onKinds = h .onKinds;
