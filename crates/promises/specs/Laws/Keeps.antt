@@ -8,7 +8,7 @@ use native.Mathlib.Omega.{arith}
 use lib.Dec.{eqb, ltb, leb}
 use lib.ListN.{length, replicate}
 use borrow.Author.Tests.{eqb-true, ltb-true, ltb-false, leb-false}
-use Rattle.lists.specs.Lists.{bit, pick, anyOf, All}
+use Rattle.lists.specs.Lists.{bit, pick, anyOf}
 use Rattle.lists.specs.Laws.Tests.{neither, both}
 use Rattle.lists.specs.Laws.All.{all-map, all-set, all-replicate}
 use Rattle.lists.specs.Laws.Finds.{any-false}

@@ -1,6 +1,6 @@
 -- Every outcome keeps the lengths of the arrays, whatever the call is given.
 -- Assumes nothing.
-use mathlib.Core.Path.{_≡_, subst⁻¹}
+use mathlib.Core.Path.{subst⁻¹}
 use mathlib.Core.List.{List, []}
 use Prim.Native.Nat.{ℕ, zero, suc}
 use Rattle.model.specs.Model.{Answer, Call, declare, newRegion, subregion, push, dropFrame, handBack, allocate, first, copy, fetch, clear, load, setPointer, put, get, view, same, about, report, totals, audit, delete}
@@ -10,8 +10,8 @@ use Rattle.regions.specs.declared.Regions.{Regions}
 use Rattle.regions.specs.Regions.{entryOf, tagOf}
 use Rattle.pages.specs.declared.Pages.{Pages}
 use Rattle.outcomes.specs.Store.{Store, frames, kinds, regions, pages}
-use Rattle.outcomes.specs.Shape.{FramesSized, KindsSized, RegionsSized, PagesSized, Sized}
-use Rattle.outcomes.specs.Outcome.{Outcome, Accepted, Answered, refusal, withFrames, withKinds, withRegions, withPages, withHeap, fillSlot, writeWord, recounted, pointed, popFrame, allocated, outgoing, newlyCounted, deleted}
+use Rattle.outcomes.specs.Shape.{FramesSized, RegionsSized, PagesSized, Sized}
+use Rattle.outcomes.specs.Outcome.{Outcome, Accepted, Answered, refusal, withFrames, withRegions, withPages, withHeap, fillSlot, writeWord, recounted, pointed, popFrame, allocated, outgoing, newlyCounted, deleted}
 use Rattle.outcomes.specs.Laws.Sized.{put-slot, push-frame, pop-frame, raise-mark, with-kind, with-region, without-region, with-page, recount-sized, with-taken, free-pages}
 
 -- ---- a store with another part
