@@ -34,7 +34,6 @@ use Rattle.pages.specs.Pages.{pageCount, ownerAt, ownerOf, pagesOf, freed, owne
 use Rattle.pages.specs.Laws.Gone.{gone-owner, gone-other, gone-pages, gone-held, gone-pointer, gone-free}
 use Rattle.objects.specs.Objects.{freeWordsOn, freeWordsOf, outOf}
 use Rattle.outcomes.specs.Store.{Store, frames, kinds, regions, pages, slotTargets}
-use Rattle.outcomes.specs.Shape.{Shaped}
 use Rattle.outcomes.specs.Outcome.{Accepted, withFrames, withRegions, withPages, recounted, outgoing, newlyIn, newlyCounted, deleted}
 use Rattle.refinement.specs.Represents.{spot, tagFor, Alive, wordsIn, FramesAgree, RegionsAgree, PagesAgree, RoomAgrees, Tiles, ObjectsAgree, Represents}
 use Rattle.refinement.specs.Laws.Tags.{tag-some, live-named, tag-same, tag-among, zero-tag, tags-once, name-among, entry-among}
@@ -287,9 +286,9 @@ deleted-represents L sp ids S v h rs m small =
           count-stays now (map (entryOf now) rs) _ ∙ ap (countAt now) (entry-kept v g rs m q k ∙ same-entry b q) ∙ count-left S v h q (n .0) rs m (n .1) (small q);
     })
 
-pub delete-step : (L : Model) (sp : List ℕ) (ids : ℕ → List ℕ) (S : Store) → Valid L → Represents L sp ids S → (a : Answer) (T : Store) (r : ℕ) → Shaped S → ((q : ℕ) → outside L q ≤ 16640)
+pub delete-step : (L : Model) (sp : List ℕ) (ids : ℕ → List ℕ) (S : Store) → Valid L → Represents L sp ids S → (a : Answer) (T : Store) (r : ℕ) → ((q : ℕ) → outside L q ≤ 16640)
     → refusal L (delete r) ≡ 0 → Accepted (delete r) S a T → (a ≡ reply L (delete r)) × Represents (accepted L (delete r)) sp ids T
 unfolding Accepted reply accepted
-delete-step L sp ids S v h a T r shaped small e (x, y) =
+delete-step L sp ids S v h a T r small e (x, y) =
     let m = removable-one L r e in
     (x ∙ rw (h .onPages .held r (m .live .0)), rw y (deleted-represents L sp ids S v h (r ∷ []) m small))
