@@ -35,12 +35,12 @@ memory v c n = record {
   heap = 1 ∷ replicate 63 0 ++ (1 ∷ 1 ∷ 1 ∷ 65 ∷ replicate 60 0);
 }
 
--- of what is left: the counts of both entries, m, the owners of both pages, the name at the second entry
+-- of what is left: the counts of the first two entries, m, the owners of both pages, the names at the second and third entry
 abbrev reads : Store → List ℕ
-reads S = countAt (regions S) 0 ∷ countAt (regions S) 1 ∷ (frames S) .counted ∷ ownerAt (pages S) 0 ∷ ownerAt (pages S) 1 ∷ nameAt (regions S) 1 ∷ []
+reads S = countAt (regions S) 0 ∷ countAt (regions S) 1 ∷ (frames S) .counted ∷ ownerAt (pages S) 0 ∷ ownerAt (pages S) 1 ∷ nameAt (regions S) 1 ∷ nameAt (regions S) 2 ∷ []
 
--- one pointer into region 1 went with the page, two came with the frames that are counted now
-goes : reads (deleted (memory 0 0 0) (2 ∷ [])) ≡ 2 ∷ 0 ∷ 2 ∷ 1 ∷ 0 ∷ 0 ∷ []
+-- one pointer into region 1 went with the page, two came with the frames that are counted now; the same with a subregion in the list, which has no page
+goes : map reads (deleted (memory 0 0 0) (2 ∷ []) ∷ deleted (memory 0 0 3) (2 ∷ 3 ∷ []) ∷ []) ≡ (2 ∷ 0 ∷ 2 ∷ 1 ∷ 0 ∷ 0 ∷ 0 ∷ []) ∷ (2 ∷ 0 ∷ 2 ∷ 1 ∷ 0 ∷ 0 ∷ 0 ∷ []) ∷ []
 unfolding frameCount topFrame widthAt slotAt raised kindCount sizeOf markAt nameAt entryOf tagOf countAt withoutRegions withCounts rolled moved pageCount ownerAt takenAt ownerIn ownerOf freed walk headersTo headersOn freeWords freeWordsOn outOf slotTargets recounted outgoing newlyCounted deleted sizeIn entryIn recount targetsIn newlyIn freeWordsOf ownersTo
 goes = refl
 
