@@ -87,7 +87,7 @@ module _ (L : Model) (v : Valid L) (r : ℕ) (l : livesIn L r ≡ true) (n : eqb
           distinct = distinct-keep f gs (v .names .distinct);
           named = all-map (λ g h. h .0) (others gs r) (all-keep _ f gs (v .names .named));
           namesGiven = all-map (λ g h. h .0) (others gs r) (all-keep _ f gs (v .names .namesGiven));
-          last = v .names .last;
+          lastGiven = v .names .lastGiven;
           permanent = rw (live-others gs r 1 one-away) (v .names .permanent);
           root = ap (λ x. x .parent) (region-others gs r 1 one-away) ∙ v .names .root;
         };
