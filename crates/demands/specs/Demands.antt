@@ -7,7 +7,7 @@ use mathlib.Core.Bool.{Bool, true}
 use mathlib.Core.List.{List, [], _∷_}
 use Prim.Native.Nat.{ℕ, _+_, _/_}
 use lib.ListN.{length, getD, drop}
-use Rattle.lists.specs.Lists.{countOf, times}
+use Rattle.lists.specs.Lists.{countOf, All, times}
 use Rattle.model.specs.Model.{Model, Answer, Call, report, delete, audit, gives}
 use Rattle.model.specs.Calls.{makes, fresh, run}
 use Rattle.model.specs.Valid.{Valid}
