@@ -93,7 +93,7 @@ StaysShown = (S : Store) (h : History) → Start S h → (es : List Event) (T : 
 unfoldable pub StartsAgree : Type 0
 StartsAgree = (heap : List ℕ) (a : Answer) (S : Store) → makes (length heap) ≡ true → MakeOutcome heap a S → begin S ≡ opening (length heap / 64)
 
--- A row of sessions on the store: make, given as many words as the row says, and then a run with the row's calls print the row's lines. No call follows a refused make.
+-- A row of sessions on the store: make, given as many words as the row says, and then a run with the row's calls print the row's lines. (A row whose make is refused has no calls.)
 unfoldable pub RowHolds : Row → Type 0
 RowHolds row =
     (heap : List ℕ) (a : Answer) (S : Store) → length heap ≡ row .lent → MakeOutcome heap a S
