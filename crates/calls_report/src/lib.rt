@@ -65,18 +65,16 @@ pub fn report(s: State, heap: &[u32], region: u32) -> Reply
     // The entry is below 64 here. `least` keeps the compiler from working the tag out again at every slot.
     let t = cells::least(e, 63) + 1;
     let stored = regions::count_at(&r.counts, e);
-    checks::gives(
+    let all = outside(
         stored,
-        outside(
-            stored,
-            f.standing,
-            f.counted,
-            &f.widths,
-            &f.slots,
-            &p.owners,
-            t,
-        ),
-        pages::pages_of(p.made, &p.owners, t),
-        regions::subregions_of(&r.names, &r.parents, t),
-    )
+        f.standing,
+        f.counted,
+        &f.widths,
+        &f.slots,
+        &p.owners,
+        t,
+    );
+    let held = pages::pages_of(p.made, &p.owners, t);
+    let below = regions::subregions_of(&r.names, &r.parents, t);
+    checks::gives(stored, all, held, below)
 }

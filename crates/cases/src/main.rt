@@ -1,75 +1,21 @@
 // Document 01's cases on the store: for each, make and then calls, with a line for those that the case is about.
 // A line begins with the call's number.
-use state::Done;
-use state::State;
-
-// The calls' numbers in document 01.
-const MAKE: u32 = 1;
-
-const DECLARE: u32 = 2;
-
-const NEW_REGION: u32 = 3;
-
-const SUBREGION: u32 = 4;
-
-const PUSH: u32 = 5;
-
-const DROP: u32 = 6;
-
-const ALLOCATE: u32 = 8;
-
-const CLEAR: u32 = 12;
-
-const SET_POINTER: u32 = 14;
-
-const REPORT: u32 = 20;
-
-const TOTALS: u32 = 21;
-
-const AUDIT: u32 = 22;
-
-const DELETE: u32 = 23;
-
-// A call made n times, and once for 0, each time on what the one before left; the last one's reply.
-fn times(s: State, heap: &mut [u32], n: u32, number: u32, a: u32, b: u32, c: u32) -> Done {
-    let none = [0u32; 0];
-    let mut d = store::call(s, heap, number, a, b, c, &none);
-    let mut i: u32 = 1;
-    while i < n {
-        i += 1;
-        let t = d.state;
-        let e = store::call(t, heap, number, a, b, c, &none);
-        d = e;
-    }
-    d
-}
-
-// A call, with no line.
-fn does(s: State, heap: &mut [u32], number: u32, a: u32, b: u32, c: u32) -> State {
-    let d = times(s, heap, 1, number, a, b, c);
-    d.state
-}
-
-// A call made n times, with a line for the last.
-fn shows(s: State, heap: &mut [u32], n: u32, number: u32, a: u32, b: u32, c: u32) -> State {
-    let d = times(s, heap, n, number, a, b, c);
-    lines::line(number, d.reply);
-    d.state
-}
-
-// Make, with its line.
-fn made(heap: &mut [u32]) -> State {
-    let d = store::make(heap);
-    lines::line(MAKE, d.reply);
-    d.state
-}
-
-// Make, with its line, and a kind.
-fn with_kind(heap: &mut [u32], marks: &[u32]) -> State {
-    let s = made(heap);
-    let d = store::declare(s, heap, marks);
-    d.state
-}
+use trials::ALLOCATE;
+use trials::AUDIT;
+use trials::CLEAR;
+use trials::DECLARE;
+use trials::DELETE;
+use trials::DROP;
+use trials::NEW_REGION;
+use trials::PUSH;
+use trials::REPORT;
+use trials::SET_POINTER;
+use trials::SUBREGION;
+use trials::TOTALS;
+use trials::does;
+use trials::made;
+use trials::shows;
+use trials::with_kind;
 
 // Make with the first n words of a heap.
 fn makes(heap: &mut [u32], n: usize) {

@@ -1,17 +1,18 @@
 -- The three demands, and more. They speak of `Outcome`, which is what every public call's contract says, of lists of calls (`Run`) and of what these tell (`history`).
--- Each is a type. The theorems are in Laws: demand1, demand2 and audited-answers, demand3, stays-sound, stays-shown, starts-agree and runs-exist, table-holds.
+-- Each is a type. The theorems are in Laws: demand1, demand2 and audited-answers, demand3, stays-sound, stays-shown, starts-agree and runs-exist, table-holds and further-holds.
 -- Assumes nothing.
 use mathlib.Core.Path.{_≡_}
 use mathlib.Core.Logic.{_↔_, _≢_}
 use mathlib.Core.Bool.{Bool, true}
 use mathlib.Core.List.{List, [], _∷_}
-use Prim.Native.Nat.{ℕ, _+_, _/_, _<_}
+use Prim.Native.Nat.{ℕ, _+_, _/_}
 use lib.ListN.{length, getD, drop}
-use Rattle.lists.specs.Lists.{countOf, times}
+use Rattle.lists.specs.Lists.{countOf, All, times}
 use Rattle.model.specs.Model.{Model, Answer, Call, report, delete, audit, gives}
 use Rattle.model.specs.Calls.{makes, fresh, run}
 use Rattle.model.specs.Valid.{Valid}
-use Rattle.model.specs.Sessions.{lines, table, document}
+use Rattle.model.specs.Sessions.{Row, lines, table}
+use Rattle.model.specs.Further.{further}
 use Rattle.outcomes.specs.Store.{Store}
 use Rattle.outcomes.specs.History.{History, Region, Object, begin, isLive, storedCount, uncountedInto, outside, subregions, slotsLead, wordsLead, holders, pagesHeld}
 use Rattle.outcomes.specs.Shape.{Sized}
@@ -92,9 +93,17 @@ StaysShown = (S : Store) (h : History) → Start S h → (es : List Event) (T : 
 unfoldable pub StartsAgree : Type 0
 StartsAgree = (heap : List ℕ) (a : Answer) (S : Store) → makes (length heap) ≡ true → MakeOutcome heap a S → begin S ≡ opening (length heap / 64)
 
--- Document 01's session and cases, those whose make is refused too: make, given as many words as a row of the table says, and then a run with the row's calls print the row's lines.
+-- A row of sessions on the store: make, given as many words as the row says, and then a run with the row's calls print the row's lines. (A row whose make is refused has no calls.)
+unfoldable pub RowHolds : Row → Type 0
+RowHolds row =
+    (heap : List ℕ) (a : Answer) (S : Store) → length heap ≡ row .lent → MakeOutcome heap a S
+    → (es : List Event) (T : Store) → Run S es T → calls es ≡ row .calls
+    → drop (row .skip) (lines 1 (a ∷ answers es)) ≡ row .prints
+
+-- Document 01's session and its starred cases
 unfoldable pub TableHolds : Type 0
-TableHolds =
-    (k : ℕ) → k < length table → (heap : List ℕ) (a : Answer) (S : Store) → length heap ≡ getD table k document .lent → MakeOutcome heap a S
-    → (es : List Event) (T : Store) → Run S es T → calls es ≡ getD table k document .calls
-    → drop (getD table k document .skip) (lines 1 (a ∷ answers es)) ≡ getD table k document .prints
+TableHolds = All RowHolds table
+
+-- More than document 01 asks: its other cases, and rules that its cases leave out
+unfoldable pub FurtherHolds : Type 0
+FurtherHolds = All RowHolds further

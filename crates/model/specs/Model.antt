@@ -158,6 +158,7 @@ freeInto home r k p = pick (eqb k 1) (into home r p) 0
 unfoldable pub fromObject : (ℕ → Bool) → (ℕ → ℕ) → List (List ℕ) → ℕ → Object → ℕ
 fromObject lives home ks r o = pick (lives (o .home) && not (eqb (o .home) r)) (sumOf₂ (freeInto home r) (marks ks (o .kind)) (o .words)) 0
 
+-- how many words of the objects os lead into r, and how many of all the objects of a model
 unfoldable pub inWords : (ℕ → Bool) → (ℕ → ℕ) → List (List ℕ) → List Object → ℕ → ℕ
 inWords lives home ks os r = sumOf (fromObject lives home ks r) os
 

@@ -26,7 +26,7 @@ pub record ValidNames (gs : List Region) (given : ℕ) : Type 0 where
   pub distinct : Distinct gs
   pub named : All (λ g. 1 ≤ g .name) gs
   pub namesGiven : All (λ g. g .name ≤ given) gs
-  pub last : given ≤ 1000000
+  pub lastGiven : given ≤ 1000000
   pub permanent : live gs 1 ≡ true
   pub root : parentOf gs 1 ≡ 0
 

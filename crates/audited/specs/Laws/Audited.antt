@@ -59,7 +59,7 @@ module _ {L : Model} {sp : List ℕ} {ids : ℕ → List ℕ} (S : Store) (v : V
     standing = le-leb ((frames S) .standing) 32 (omega (arith, h .onFrames .standing, v .frames .many));
     widths = widths S a;
     levels = entries-every S a _ (deep S a);
-    given = le-leb ((regions S) .given) 1000000 (omega (arith, h .onRegions .given, v .names .last));
+    given = le-leb ((regions S) .given) 1000000 (omega (arith, h .onRegions .given, v .names .lastGiven));
     counted = le-leb ((frames S) .counted) ((frames S) .standing - 1) (omega (arith, h .onFrames .standing, h .onFrames .counted, v .frames .mark));
     heapLength = eq-eqb (length (S .heap)) (64 * (pages S) .made) (h .onPages .whole);
     distinct = entries-every S a _ (distinct S a);

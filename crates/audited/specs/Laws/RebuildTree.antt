@@ -166,7 +166,7 @@ module _ (S : Store) (sh : Sized S) (so : Sound S) where
     )) (entries S) (every-true _ (entries S) (so .distinct)));
     named = named;
     namesGiven = all-regions S sh (λ g. g .name ≤ (regions S) .given) (λ i h. leb-true (nameAt (regions S) i) ((regions S) .given) (each-entry S sh _ (so .namesGiven) i h));
-    last = leb-true ((regions S) .given) 1000000 (so .given);
+    lastGiven = leb-true ((regions S) .given) 1000000 (so .given);
     permanent = one-lives;
     root = root;
   }

@@ -25,10 +25,10 @@ abbrev bench-again-below : ℕ → In 3 bench-again-kinds.ps
 bench-again-below t = and 3 bench-again-kinds.ps (falls 3 bench-again-kinds.ps _<_ μ-bench-again t) bench-again.Pre
 
 abbrev Inv-loop : bench-again-lts.InvT-loop
-Inv-loop heap₀ once again times which n s t₀ sumOf₀ i₀ heap t sumOf i = (i ≤ n) × (length heap ≡ length heap₀)
+Inv-loop heap₀ once again times which n s t₀ sum₀ i₀ heap t sum i = (i ≤ n) × (length heap ≡ length heap₀)
 
 abbrev μ-loop : bench-again-lts.MeasureT-loop
-μ-loop heap₀ once again times which n s t₀ sumOf₀ i₀ heap t sumOf i = n - i
+μ-loop heap₀ once again times which n s t₀ sum₀ i₀ heap t sum i = n - i
 
 pub +bench-again-spec : {M : Type 1} → statement M
 +bench-again-spec = close μ-bench-again (λ t. bench-again-lts.spec (bench-again-below t, bench-again.Post, prepared-for-reads.Asked, prepared-for-reads.Learnt, allocate-reads.Asked, allocate-reads.Learnt, noted-reads.Asked, noted-reads.Learnt, delete-reads.Asked, delete-reads.Learnt, ended-reads.Asked, ended-reads.Learnt) (bench-again-at t) bench-again.Post Inv-loop μ-loop

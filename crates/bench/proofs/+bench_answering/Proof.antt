@@ -33,10 +33,10 @@ abbrev bench-answering-below : ℕ → In 3 bench-answering-kinds.ps
 bench-answering-below t = and 3 bench-answering-kinds.ps (falls 3 bench-answering-kinds.ps _<_ μ-bench-answering t) bench-answering.Pre
 
 abbrev Inv-loop : bench-answering-lts.InvT-loop
-Inv-loop heap₀ once again times which n s sumOf₀ i₀ heap sumOf i = (i ≤ n) × (length heap ≡ length heap₀)
+Inv-loop heap₀ once again times which n s sum₀ i₀ heap sum i = (i ≤ n) × (length heap ≡ length heap₀)
 
 abbrev μ-loop : bench-answering-lts.MeasureT-loop
-μ-loop heap₀ once again times which n s sumOf₀ i₀ heap sumOf i = n - i
+μ-loop heap₀ once again times which n s sum₀ i₀ heap sum i = n - i
 
 pub +bench-answering-spec : {M : Type 1} → statement M
 +bench-answering-spec = close μ-bench-answering (λ t. bench-answering-lts.spec (bench-answering-below t, bench-answering.Post, prepared-for-reads.Asked, prepared-for-reads.Learnt, put-reads.Asked, put-reads.Learnt, get-reads.Asked, get-reads.Learnt, view-reads.Asked, view-reads.Learnt, viewed-reads.Asked, viewed-reads.Learnt, same-reads.Asked, same-reads.Learnt, about-reads.Asked, about-reads.Learnt, report-reads.Asked, report-reads.Learnt, totals-reads.Asked, totals-reads.Learnt, audit-reads.Asked, audit-reads.Learnt, noted-reads.Asked, noted-reads.Learnt) (bench-answering-at t) bench-answering.Post Inv-loop μ-loop

@@ -32,10 +32,10 @@ abbrev bench-changing-below : ℕ → In 3 bench-changing-kinds.ps
 bench-changing-below t = and 3 bench-changing-kinds.ps (falls 3 bench-changing-kinds.ps _<_ μ-bench-changing t) bench-changing.Pre
 
 abbrev Inv-loop : bench-changing-lts.InvT-loop
-Inv-loop heap₀ once again times which n none s₀ sumOf₀ i₀ heap s sumOf i = (i ≤ n) × (length heap ≡ length heap₀) × (length none ≡ 0)
+Inv-loop heap₀ once again times which n none s₀ sum₀ i₀ heap s sum i = (i ≤ n) × (length heap ≡ length heap₀) × (length none ≡ 0)
 
 abbrev μ-loop : bench-changing-lts.MeasureT-loop
-μ-loop heap₀ once again times which n none s₀ sumOf₀ i₀ heap s sumOf i = n - i
+μ-loop heap₀ once again times which n none s₀ sum₀ i₀ heap s sum i = n - i
 
 pub +bench-changing-spec : {M : Type 1} → statement M
 +bench-changing-spec = close μ-bench-changing (λ t. bench-changing-lts.spec (bench-changing-below t, bench-changing.Post, prepared-for-reads.Asked, prepared-for-reads.Learnt, first-reads.Asked, first-reads.Learnt, copy-reads.Asked, copy-reads.Learnt, fetch-reads.Asked, fetch-reads.Learnt, clear-reads.Asked, clear-reads.Learnt, load-reads.Asked, load-reads.Learnt, set-pointer-reads.Asked, set-pointer-reads.Learnt, call-reads.Asked, call-reads.Learnt, refused-reads.Asked, refused-reads.Learnt, ended-reads.Asked, ended-reads.Learnt) (bench-changing-at t) bench-changing.Post Inv-loop μ-loop

@@ -27,10 +27,10 @@ abbrev bench-pairs-below : ℕ → In 3 bench-pairs-kinds.ps
 bench-pairs-below t = and 3 bench-pairs-kinds.ps (falls 3 bench-pairs-kinds.ps _<_ μ-bench-pairs t) bench-pairs.Pre
 
 abbrev Inv-loop : bench-pairs-lts.InvT-loop
-Inv-loop heap once again times which n s₀ sumOf₀ i₀ s sumOf i = i ≤ n
+Inv-loop heap once again times which n s₀ sum₀ i₀ s sum i = i ≤ n
 
 abbrev μ-loop : bench-pairs-lts.MeasureT-loop
-μ-loop heap once again times which n s₀ sumOf₀ i₀ s sumOf i = n - i
+μ-loop heap once again times which n s₀ sum₀ i₀ s sum i = n - i
 
 pub +bench-pairs-spec : {M : Type 1} → statement M
 +bench-pairs-spec = close μ-bench-pairs (λ t. bench-pairs-lts.spec (bench-pairs-below t, bench-pairs.Post, prepared-for-reads.Asked, prepared-for-reads.Learnt, new-region-reads.Asked, new-region-reads.Learnt, refused-reads.Asked, refused-reads.Learnt, delete-reads.Asked, delete-reads.Learnt, subregion-reads.Asked, subregion-reads.Learnt, push-reads.Asked, push-reads.Learnt, drop-reads.Asked, drop-reads.Learnt, hand-back-reads.Asked, hand-back-reads.Learnt, ended-reads.Asked, ended-reads.Learnt) (bench-pairs-at t) bench-pairs.Post Inv-loop μ-loop

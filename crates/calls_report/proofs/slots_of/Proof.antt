@@ -22,11 +22,11 @@ abbrev leads : List ℕ → List ℕ → ℕ → ℕ → ℕ → Bool
 leads slots owners tag i k = eqb (ownerIn owners (slotIn slots i k)) tag
 
 abbrev Inv-loop : tie.InvT-loop
-Inv-loop widths slots owners tag i n frame sumOf₀ k₀ sumOf k =
-    (n ≡ widthIn widths i) × (frame ≡ take n (drop (8 * i) slots)) × (k ≤ length frame) × (sumOf ≡ countOf (leads slots owners tag i) (upTo k))
+Inv-loop widths slots owners tag i n frame sum₀ k₀ sum k =
+    (n ≡ widthIn widths i) × (frame ≡ take n (drop (8 * i) slots)) × (k ≤ length frame) × (sum ≡ countOf (leads slots owners tag i) (upTo k))
 
 abbrev μ-loop : tie.MeasureT-loop
-μ-loop widths slots owners tag i n frame sumOf₀ k₀ sumOf k = length frame - k
+μ-loop widths slots owners tag i n frame sum₀ k₀ sum k = length frame - k
 
 -- the part has at most n slots, and all that there are
 long : (l : List ℕ) (at n : ℕ) → length (take n (drop at l)) ≡ min n (length l - at)

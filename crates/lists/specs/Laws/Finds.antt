@@ -1,4 +1,4 @@
--- Laws of `any`, `every`, `find` and `keep`, and so of `among`, which is an `any`.
+-- Laws of `anyOf`, `every`, `findOr` and `keep`, and so of `among`, which is an `anyOf`.
 -- Assumes nothing.
 use mathlib.Core.Path.{_≡_, refl, sym, ap, ap₂, _∙_, fun-ext}
 use mathlib.Core.Bool.{Bool, true, false, _&&_, _||_, and-assoc, true≢false, false≢true, not}

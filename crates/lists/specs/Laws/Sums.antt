@@ -1,4 +1,4 @@
--- Laws of sums, and so of `count` and `times`, which are sums of bits.
+-- Laws of sums, and so of `countOf` and `times`, which are sums of bits.
 -- Assumes nothing.
 use mathlib.Core.Path.{_≡_, refl, sym, ap, ap₂, _∙_}
 use mathlib.Core.Bool.{Bool, true, false, _||_}

@@ -73,7 +73,7 @@ module _ (L : Model) (v : Valid L) (rs : List ℕ) (m : Removable L rs) where
           distinct = distinct-keep f gs (v .names .distinct);
           named = all-map (λ g h. h .0) left (all-keep _ f gs (v .names .named));
           namesGiven = all-map (λ g h. h .0) left (all-keep _ f gs (v .names .namesGiven));
-          last = v .names .last;
+          lastGiven = v .names .lastGiven;
           permanent = rw (live-others gs rs 1 (m .notOne)) (v .names .permanent);
           root = ap (λ x. x .parent) (region-others gs rs 1 (m .notOne)) ∙ v .names .root;
         };

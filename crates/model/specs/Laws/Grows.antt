@@ -130,7 +130,7 @@ add-region-valid L v r l a e d few last =
         distinct = distinct-more gs g (v .names .distinct) (all-map (λ x h. omega arith) gs (v .names .namesGiven));
         named = all-append _ gs (g ∷ []) (v .names .named) (omega arith, tt);
         namesGiven = all-append _ gs (g ∷ []) (all-map (λ x h. omega arith) gs (v .names .namesGiven)) (omega arith, tt);
-        last = omega arith;
+        lastGiven = omega arith;
         permanent = live-more gs g 1 (v .names .permanent);
         root = m .parents 1 (v .names .permanent) ∙ v .names .root;
       };
@@ -237,7 +237,7 @@ add-object-valid L v r k l h =
         distinct = distinct-map (change r n i) (name-kept r n i) gs (v .names .distinct);
         named = all-change (λ g. 1 ≤ g .name) _ (change r n i) (λ g q. rw (name-kept r n i g) q) gs (v .names .named);
         namesGiven = all-change (λ g. g .name ≤ L .given) _ (change r n i) (λ g q. rw (name-kept r n i g) q) gs (v .names .namesGiven);
-        last = v .names .last;
+        lastGiven = v .names .lastGiven;
         permanent = m .forth 1 (v .names .permanent);
         root = m .parents 1 (v .names .permanent) ∙ v .names .root;
       };

@@ -51,7 +51,7 @@ after-valid L (c ∷ cs) v = after-valid (next L c) cs (next-valid L c v)
 pub fresh-valid : (n : ℕ) → Valid (fresh n)
 fresh-valid n = record {
   kinds = record { many = omega arith; sized = tt; marks = tt };
-  names = record { many = omega arith; distinct = (refl, tt); named = (omega arith, tt); namesGiven = (omega arith, tt); last = omega arith; permanent = refl; root = refl };
+  names = record { many = omega arith; distinct = (refl, tt); named = (omega arith, tt); namesGiven = (omega arith, tt); lastGiven = omega arith; permanent = refl; root = refl };
   parents = (record { parent = refl; level = refl; deep = omega arith }, tt);
   oldest = (refl, tt);
   objects = tt;

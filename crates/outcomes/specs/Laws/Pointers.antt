@@ -26,7 +26,7 @@ use Rattle.outcomes.specs.History.{Object, Word, begin, listedKinds, lis
 use Rattle.outcomes.specs.History as history
 use Rattle.outcomes.specs.Laws.Begin.{holderOf, headersOf, headers, objectAt, begin-objects, page-of, leads-null, home-is, home-none, name-same}
 
--- how many words wordMarked 1 on page j lead into the region with tag t: none if the page is free or is that region's
+-- how many words marked 1 on page j lead into the region with tag t: none if the page is free or is that region's
 unfoldable pub wordsInto : Store → ℕ → ℕ → ℕ
 wordsInto S t j = pick (eqb (ownerAt (pages S) j) 0 || eqb (ownerAt (pages S) j) t) 0 (countOf (λ v. eqb (ownerOf (pages S) v) t) (freeWordsOn (kinds S) (S .heap) (pages S) j))
 
@@ -102,7 +102,7 @@ module _ (S : Store) where
         ∙ every-below _ (λ w. eqb (markAt (kinds S) (o .kind) w) 0 || f (markAt (kinds S) (o .kind) w) (valueAt (o .place) w)) (length ms) (λ w h. rw (marks-at (o .kind) w h))
         ∙ ap (λ n. every (λ w. eqb (markAt (kinds S) (o .kind) w) 0 || f (markAt (kinds S) (o .kind) w) (valueAt (o .place) w)) (upTo n)) (sym (marks-length (o .kind)))
 
-    -- those wordMarked 1 that pass
+    -- those marked 1 that pass
     abbrev passing : (ℕ → Bool) → ℕ → ℕ
     passing f w = pick (eqb (markAt (kinds S) (o .kind) w) 1) (bit (f (valueAt (o .place) w))) 0
 

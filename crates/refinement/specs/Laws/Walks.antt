@@ -1,4 +1,4 @@
--- The walk over a held page of the store meets just the model's objects on that page, and reads their words some-mark 1.
+-- The walk over a held page of the store meets just the model's objects on that page, and reads their words marked 1.
 -- Assumes nothing.
 use mathlib.Core.Path.{_≡_, refl, sym, ap₂, _∙_}
 use mathlib.Core.Logic.{_≢_}
@@ -71,7 +71,7 @@ module _ (L : Model) (sp : List ℕ) (k : Kinds) (heap : List ℕ) (sized : Size
       rw (size-at a p (t .0) (t .1), lt-ltb 0 s (sized p (t .1) .0), le-leb (a + 1 + s) e (omega (arith, tiles-long L sp sized (a + 1 + s) e ps (t .2))))
       (ap₂ _∷_ b (walk-tiles n (a + 1 + s) e ps (omega arith) (t .2)))
 
-  -- the words some-mark 1 of one object hold the pointers of the objects that the model's words lead to
+  -- the words marked 1 of one object hold the pointers of the objects that the model's words lead to
   pub free-words : (f : ℕ → ℕ) (p : ℕ) → Alive L p → sumOf f (freeWords k heap (spot sp p - 1)) ≡ sumOf₂ (λ m x. pick (eqb m 1) (f (spot sp x)) 0) (marksIn L p) (wordsIn L p)
   unfolding freeWords
   free-words f p l =
@@ -115,7 +115,7 @@ module _ (L : Model) (sp : List ℕ) (ids : ℕ → List ℕ) (g : Regions) (k :
       rw e (walk-tiles L sp k heap (all-sized L v) kinds (objects .laid) 64 (64 * j) (64 * j + getD (p .taken) j 0) (ids j)
       (omega (arith, objects .full j made held, tiles-long L sp (all-sized L v) (64 * j) (64 * j + getD (p .taken) j 0) (ids j) t)) t)
 
-  -- whatever is added up over the words some-mark 1 on the page comes to the same over the model's words some-mark 1
+  -- whatever is added up over the words marked 1 on the page comes to the same over the model's words marked 1
   pub free-words-on : (f : ℕ → ℕ) → sumOf f (freeWordsOn k heap p j) ≡ sumOf (λ q. sumOf₂ (λ m x. pick (eqb m 1) (f (spot sp x)) 0) (marksIn L q) (wordsIn L q)) (ids j)
   unfolding freeWordsOn headersOn
   free-words-on f = rw headers-on (free-joined L sp k heap (all-sized L v) kinds (objects .laid) f (ids j) (tiles-alive L sp _ _ (ids j) (objects .tiled j made held)))

@@ -1,0 +1,120 @@
+// Calls on the store, one after the other, with a line for those that a program is about.
+use state::Done;
+use state::Reply;
+use state::State;
+
+// The calls' numbers in document 01.
+pub const MAKE: u32 = 1;
+
+pub const DECLARE: u32 = 2;
+
+pub const NEW_REGION: u32 = 3;
+
+pub const SUBREGION: u32 = 4;
+
+pub const PUSH: u32 = 5;
+
+pub const DROP: u32 = 6;
+
+pub const HAND_BACK: u32 = 7;
+
+pub const ALLOCATE: u32 = 8;
+
+pub const FIRST: u32 = 9;
+
+pub const COPY: u32 = 10;
+
+pub const FETCH: u32 = 11;
+
+pub const CLEAR: u32 = 12;
+
+pub const LOAD: u32 = 13;
+
+pub const SET_POINTER: u32 = 14;
+
+pub const PUT: u32 = 15;
+
+pub const GET: u32 = 16;
+
+pub const VIEW: u32 = 17;
+
+pub const SAME: u32 = 18;
+
+pub const ABOUT: u32 = 19;
+
+pub const REPORT: u32 = 20;
+
+pub const TOTALS: u32 = 21;
+
+pub const AUDIT: u32 = 22;
+
+pub const DELETE: u32 = 23;
+
+// The call with that number and these arguments.
+fn called(s: State, heap: &mut [u32], number: u32, a: u32, b: u32, c: u32) -> Done {
+    let none = [0u32; 0];
+    store::call(s, heap, number, a, b, c, &none)
+}
+
+// A call made n times, and once for 0, each time on what the one before left; the last one's reply.
+fn times(s: State, heap: &mut [u32], n: u32, number: u32, a: u32, b: u32, c: u32) -> Done {
+    let mut d = called(s, heap, number, a, b, c);
+    let mut i: u32 = 1;
+    while i < n {
+        i += 1;
+        let t = d.state;
+        let e = called(t, heap, number, a, b, c);
+        d = e;
+    }
+    d
+}
+
+// A call, with no line.
+pub fn does(s: State, heap: &mut [u32], number: u32, a: u32, b: u32, c: u32) -> State {
+    let d = times(s, heap, 1, number, a, b, c);
+    d.state
+}
+
+// A call made n times, with a line for the last, which begins with the call's number.
+pub fn shows(s: State, heap: &mut [u32], n: u32, number: u32, a: u32, b: u32, c: u32) -> State {
+    let d = times(s, heap, n, number, a, b, c);
+    lines::line(number, d.reply);
+    d.state
+}
+
+// Make, with its line.
+pub fn made(heap: &mut [u32]) -> State {
+    let d = store::make(heap);
+    lines::line(MAKE, d.reply);
+    d.state
+}
+
+// Make, with its line, and a kind.
+pub fn with_kind(heap: &mut [u32], marks: &[u32]) -> State {
+    let s = made(heap);
+    let d = store::declare(s, heap, marks);
+    d.state
+}
+
+// A line for the call at that place, from the place `shown` on.
+fn line_from(shown: u32, place: u32, r: Reply) {
+    if shown <= place {
+        lines::line(place, r);
+    }
+}
+
+// A session goes on: these calls, each its number and three arguments, the first of them at the place `first`; a line for those from the place `shown` on, which begins with the call's place.
+pub fn plays(s: State, heap: &mut [u32], first: u32, shown: u32, calls: &[[u32; 4]]) -> State {
+    let mut t = s;
+    let mut place = first;
+    let mut i: usize = 0;
+    while i < calls.len() {
+        let c = calls[i];
+        i += 1;
+        let d = called(t, heap, c[0], c[1], c[2], c[3]);
+        line_from(shown, place, d.reply);
+        place = std::num::wrapping_add_u32(place, 1);
+        t = d.state;
+    }
+    t
+}
