@@ -16,7 +16,7 @@ use Rattle.lists.specs.Laws.Every.{equal-is, equal-self}
 use Rattle.lists.specs.Laws.Tests.{by-test, pick-same}
 use Rattle.lists.specs.Laws.Sets.{getD-sets-out}
 use Rattle.script.specs.declared.Line.{Line}
-use Rattle.script.specs.Script.{value, none, known, placed, callOf, allowed, line, zeros, bad, given, said}
+use Rattle.script.specs.Script.{value, noNumber, known, lastCall, names, placed, callOf, allowed, line, zeros, bad, given, said}
 
 -- ---- names
 
@@ -37,6 +37,20 @@ placed-below n w (v ∷ vs) = go (equal eqb w v) (placed-below (suc n) w vs)
     go true h = omega arith
     go false h = omega arith
 
+-- a word is a call's number, or else at most its name: the number that it writes is too small, or too great
+module _ (w : List ℕ) (v : ℕ) (e : v ≡ value w) where
+  pub numbered : 2 ≤ v → v ≤ lastCall → v ≡ callOf w
+  unfolding callOf
+  numbered h k = rw (← e, le-leb 2 v h, le-leb v lastCall k)
+
+  pub small-named : v < 2 → placed 1 w names ≡ callOf w
+  unfolding callOf
+  small-named h = rw (← e, lt-leb 2 v h)
+
+  pub great-named : lastCall < v → placed 1 w names ≡ callOf w
+  unfolding callOf
+  great-named h = rw (← e, lt-leb v lastCall h, and-false (leb 2 v))
+
 -- ---- arguments
 
 -- the arguments vs after k that stand in their places
@@ -48,19 +62,19 @@ unfolding givenFrom given line
 given-all n vs = let e : 0 + length vs ≡ length vs = omega arith in rw e
 
 module _ (n k : ℕ) (args : List ℕ) where
-  pub given-next : (v : ℕ) (vs : List ℕ) → v < none → givenFrom n k args (v ∷ vs) ≡ givenFrom n (k + 1) (set args k v) vs
+  pub given-next : (v : ℕ) (vs : List ℕ) → v < noNumber → givenFrom n k args (v ∷ vs) ≡ givenFrom n (k + 1) (set args k v) vs
   unfolding givenFrom
   given-next v vs h =
       let e : k + suc (length vs) ≡ suc k + length vs = omega arith in
-      rw (add-one k, lt-ltb v none h, e)
+      rw (add-one k, lt-ltb v noNumber h, e)
 
   pub given-none : k ≤ 64 → record { call = n; count = k; args = args } ≡ givenFrom n k args []
   unfolding givenFrom
   given-none h = let e : k + 0 ≡ k = omega arith in rw (e, le-leb k 64 h)
 
-  pub given-odd : (v : ℕ) (vs : List ℕ) → none ≤ v → bad ≡ givenFrom n k args (v ∷ vs)
+  pub given-odd : (v : ℕ) (vs : List ℕ) → noNumber ≤ v → bad ≡ givenFrom n k args (v ∷ vs)
   unfolding givenFrom
-  given-odd v vs h = rw (le-ltb v none h)
+  given-odd v vs h = rw (le-ltb v noNumber h)
 
   pub given-full : (vs : List ℕ) → 64 < k → bad ≡ givenFrom n k args vs
   unfolding givenFrom
