@@ -33,12 +33,12 @@ const DELETE: u32 = 23;
 // A call made n times, and once for 0, each time on what the one before left; the last one's reply.
 fn times(s: State, heap: &mut [u32], n: u32, number: u32, a: u32, b: u32, c: u32) -> Done {
     let none = [0u32; 0];
-    let mut d = store::call(s, heap, number, a, b, c, &none);
+    let mut d = store::call(s, heap, number, a, b, c, 0, &none);
     let mut i: u32 = 1;
     while i < n {
         i += 1;
         let t = d.state;
-        let e = store::call(t, heap, number, a, b, c, &none);
+        let e = store::call(t, heap, number, a, b, c, 0, &none);
         d = e;
     }
     d

@@ -1,25 +1,26 @@
 -- A text line by line, and the run that its calls make, one by one.
 -- Assumes nothing.
 use mathlib.Core.Path.{_≡_, refl, sym, ap, subst, _∙_}
-use mathlib.Core.Bool.{Bool, true, false, not, _&&_}
+use mathlib.Core.Bool.{Bool, true, false, not}
 use mathlib.Core.List.{List, [], _∷_, _++_, append-nil}
 use Prim.Native.Nat.{ℕ, suc, _+_, _-_, _<_, _≤_}
 use native.Mathlib.Omega.{arith}
 use lib.Dec.{eqb, leb}
 use lib.ListN.{length, getD, take, drop, drop-of-length-le, length-drop}
 use lib.Seq.{drop-drop}
-use Rattle.lists.specs.Lists.{pick, All, joined}
+use borrow.Author.Tests.{le-leb, leb-true}
+use Rattle.lists.specs.Lists.{pick, every, joined}
 use Rattle.lists.specs.Laws.All.{all-at}
-use Rattle.lists.specs.Laws.Finds.{map-append}
+use Rattle.lists.specs.Laws.Finds.{map-append, every-true}
 use Rattle.model.specs.Model.{Call, declare, newRegion, subregion, push, dropFrame, handBack, allocate, first, copy, fetch, clear, load, setPointer, put, get, view, same, about, report, totals, audit, delete}
 use Rattle.outcomes.specs.Store.{Store}
 use Rattle.outcomes.specs.Outcome.{Outcome, answerOf}
 use Rattle.outcomes.specs.Runs.{Event, calls, Run, done, step, Sent}
-use Rattle.store.specs.Dispatch.{numbered, decoded, DispatchedBy, Dispatched}
+use Rattle.store.specs.Dispatch.{numbered, isCall, decoded, DispatchedBy, Dispatched}
 use Rattle.script.specs.declared.Line.{Line}
 use Rattle.script.specs.Script.{front, ofClass, grown, scanned}
 use Rattle.script.specs.Found.{LineAt}
-use Rattle.drive.specs.Scripted.{linesOf, callsOf, Called, scripted}
+use Rattle.drive.specs.Scripted.{linesOf, lineCall, callsOf, Called, scripted}
 
 abbrev firstLine : List ℕ → List ℕ
 firstLine l = front (ofClass 2) l
@@ -92,29 +93,26 @@ sending totals = 0
 sending audit = 0
 sending (delete r) = 0
 
-abbrev Small : Call → Type 0
-Small k = sending k < 4294967296
-
-sent : (n a b c : ℕ) (ms : List ℕ) → c < 4294967296 → Sent (decoded n a b c ms)
+sent : (n a b c d : ℕ) (list : List ℕ) → c < 4294967296 → Sent (decoded n a b c d list)
 unfolding decoded
-sent n a b c ms h s w x e =
-    let z : 0 < 4294967296 = omega arith in
-    let l = numbered a b c ms in
-    let q : All Small l = (z, (z, (z, (z, (z, (z, (z, (z, (z, (z, (z, (z, (z, (h, (z, (z, (z, (z, (z, (z, (z, (z, tt)))))))))))))))))))))) in
-    let p = all-at Small l (n - 2) totals q z in
-    subst (λ m. m < 4294967296) (ap sending e) p
+sent n a b c d list h s w x e =
+    let small : Call → Bool = λ k. leb (sending k) c in
+    let l = numbered a b c d list in
+    let q : every small l ≡ true = rw (le-leb c c (omega arith)) in
+    let p = all-at (λ k. small k ≡ true) l (n - 2) totals (every-true small l q) refl in
+    omega (arith, leb-true _ c p, ap sending e)
 
 -- what a line does to a store that a run has reached: one call more, or none
 pub called-next : {S T U : Store} {es : List Event} (l : Line) → getD (l .args) 2 0 < 4294967296 → Called l T U → Run S es T
     → (fs : List Event) × Run S fs U × (calls fs ≡ calls es ++ callsOf l)
 unfolding Dispatched callsOf
-called-next {S} {T} {U} {es} l h (r, k) g = go (leb 2 (l .call) && leb (l .call) 23) k
+called-next {S} {T} {U} {es} l h (r, k) g = go (isCall (l .call)) k
   where
     c : Call
-    c = decoded (l .call) (getD (l .args) 0 0) (getD (l .args) 1 0) (getD (l .args) 2 0) (take (l .count) (l .args))
+    c = lineCall l
 
     go : (x : Bool) → DispatchedBy x c T r U → (fs : List Event) × Run S fs U × (calls fs ≡ calls es ++ pick x (c ∷ []) [])
     go true (part, o) =
         let e : Event = record { call = c; answer = answerOf r part; left = U } in
-        (es ++ (e ∷ []), snoc e g (sent _ _ _ _ _ h) o, map-append (λ e. e .call) es (e ∷ []))
+        (es ++ (e ∷ []), snoc e g (sent _ _ _ _ _ _ h) o, map-append (λ e. e .call) es (e ∷ []))
     go false q = (es, subst (Run S es) (sym (q .1)) g, sym (append-nil (calls es)))
