@@ -8,14 +8,14 @@ use lib.ListN.{length, take, length-append}
 use lib.Seq.{take-at, take-length, length-take-le}
 use borrow.Author.Tests.{lt-ltb, le-ltb}
 use Rattle.io.specs.Digits.{glyph, digits, Fewest}
-use Rattle.lines.specs.Lines.{digits, Added}
+use Rattle.lines.specs.Lines.{numeral, Added}
 
 glyph-digit : (d : ℕ) → d < 10 → glyph d ≡ 48 + d
 glyph-digit d h = rw (lt-ltb d 10 h)
 
 -- as many digits as n has
-pub fewest : (f k n : ℕ) → n < 10 ^ suc f → Fewest 10 1 n k → digits 10 k n ≡ digits (suc f) n
-unfolding digits
+pub fewest : (f k n : ℕ) → n < 10 ^ suc f → Fewest 10 1 n k → digits 10 k n ≡ numeral (suc f) n
+unfolding numeral
 fewest f zero n h w = absurd (omega (arith, w .0))
 fewest f (suc zero) n h w =
     let b : n < 10 = w .1 in

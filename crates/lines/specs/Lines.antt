@@ -9,13 +9,13 @@ use Rattle.lists.specs.Lists.{pick}
 use Rattle.state.specs.declared.Reply.{Reply}
 
 -- n in decimal, where it has at most k digits
-unfoldable pub digits : ℕ → ℕ → List ℕ
-digits zero n = []
-digits (suc k) n = let l = digits k (n / 10) in pick (ltb n 10) ((48 + n) ∷ []) (l ++ ((48 + n % 10) ∷ []))
+unfoldable pub numeral : ℕ → ℕ → List ℕ
+numeral zero n = []
+numeral (suc k) n = let l = numeral k (n / 10) in pick (ltb n 10) ((48 + n) ∷ []) (l ++ ((48 + n % 10) ∷ []))
 
 -- n in decimal: a number of 32 bits has at most ten digits
 unfoldable pub decimal : ℕ → List ℕ
-decimal n = digits 10 n
+decimal n = numeral 10 n
 
 -- a space and a number
 unfoldable pub column : ℕ → List ℕ
