@@ -153,11 +153,7 @@ fn call_of(w: &[u8]) -> u32
     if v < 2 {
         return named(w);
     }
-    if v <= LAST_CALL {
-        v as u32
-    } else {
-        named(w)
-    }
+    if v <= LAST_CALL { v as u32 } else { named(w) }
 }
 
 // The least number of arguments of call n.
