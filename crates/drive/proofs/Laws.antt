@@ -98,8 +98,9 @@ unfolding decoded
 sent n a b c d list h s w x e =
     let small : Call → Bool = λ k. leb (sending k) c in
     let l = numbered a b c d list in
-    let q : every small l ≡ true = rw (le-leb c c (omega arith)) in
-    let p = all-at (λ k. small k ≡ true) l (n - 2) totals (every-true small l q) refl in
+    let z : leb 0 c ≡ true = le-leb 0 c (omega arith) in
+    let q : every small l ≡ true = simp (z, le-leb c c (omega arith)) in
+    let p = all-at (λ k. small k ≡ true) l (n - 2) totals (every-true small l q) z in
     omega (arith, leb-true _ c p, ap sending e)
 
 -- what a line does to a store that a run has reached: one call more, or none
