@@ -22,12 +22,13 @@ unfoldable pub linesOf : List ℕ → List (List ℕ)
 linesOf [] = []
 linesOf (b ∷ l) = pick (eqb b 10) ([] ∷ linesOf l) (grown b (linesOf l))
 
--- the call that a scanned line is, if its number is a call's: the line's first four arguments are its numbers, and all of them its list
+-- the call that a scanned line's number names: the line's first four arguments are its numbers, and all of them its list
 abbrev pub lineCall : Line → Call
 lineCall l =
     let a = l .args in
     decoded (l .call) (getD a 0 0) (getD a 1 0) (getD a 2 0) (getD a 3 0) (take (l .count) a)
 
+-- that call, or none where the number is no call's
 unfoldable pub callsOf : Line → List Call
 callsOf l = pick (isCall (l .call)) (lineCall l ∷ []) []
 
