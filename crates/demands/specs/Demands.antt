@@ -7,17 +7,17 @@ use mathlib.Core.Bool.{Bool, true}
 use mathlib.Core.List.{List, [], _∷_}
 use Prim.Native.Nat.{ℕ, _+_, _/_, _<_}
 use lib.ListN.{length, getD, drop}
-use Rattle.lists.specs.Lists.{countOf, All, times}
+use Rattle.lists.specs.Lists.{countOf, times}
 use Rattle.model.specs.Model.{Model, Answer, Call, report, delete, audit, gives}
 use Rattle.model.specs.Calls.{makes, fresh, run}
 use Rattle.model.specs.Valid.{Valid}
 use Rattle.model.specs.Sessions.{lines, table, document}
 use Rattle.outcomes.specs.Store.{Store}
 use Rattle.outcomes.specs.History.{History, Region, Object, begin, isLive, storedCount, uncountedInto, outside, subregions, slotsLead, wordsLead, holders, pagesHeld}
-use Rattle.outcomes.specs.Shape.{Shaped}
+use Rattle.outcomes.specs.Shape.{Sized}
 use Rattle.outcomes.specs.Outcome.{Outcome, MakeOutcome}
 use Rattle.promises.specs.Promises.{Total, Refusals, LengthFirst, SameLength, OnlyNamed, KeepsShape, AuditExact, Makes}
-use Rattle.outcomes.specs.Runs.{Event, calls, answers, Run, Sent}
+use Rattle.outcomes.specs.Runs.{Event, calls, answers, Run}
 use Rattle.demands.specs.Told.{opening, history}
 
 -- Demand 1. That each call is safe, ends and touches only what it is given is the gate's verdict on functions without a `requires`.
@@ -26,9 +26,9 @@ use Rattle.demands.specs.Told.{opening, history}
 unfoldable pub Demand1 : Type 0
 Demand1 = Total × Refusals × LengthFirst × SameLength × OnlyNamed × KeepsShape × AuditExact × Makes
 
--- What is said of every run is said of every list of calls: each has a run, from any store. `Sent` asks that put's value is below 2^32; it is a u32 parameter of the call.
+-- What is said of every run is said of every list of calls, with any numbers as arguments: each has a run, from any store.
 unfoldable pub RunsExist : Type 0
-RunsExist = (cs : List Call) → All Sent cs → (S : Store) → (es : List Event) × (T : Store) × Run S es T × (calls es ≡ cs)
+RunsExist = (cs : List Call) (S : Store) → (es : List Event) × (T : Store) × Run S es T × (calls es ≡ cs)
 
 -- Demand 2. From a fresh store, whatever the calls, the answers are the reference model's, refusals included.
 unfoldable pub Demand2 : Type 0
@@ -40,13 +40,13 @@ Demand2 =
 -- More than demand 2: from any memory for which audit gives 1 the answers are those of some valid model, whatever the calls.
 unfoldable pub AuditedAnswers : Type 0
 AuditedAnswers =
-    (S : Store) → Shaped S → Outcome audit S (gives (1 ∷ [])) S
+    (S : Store) → Sized S → Outcome audit S (gives (1 ∷ [])) S
     → (L : Model) × Valid L × ((es : List Event) (T : Store) → Run S es T → answers es ≡ run L (calls es))
 
--- a fresh store, or one that the audit accepts, and the history that it begins. `Shaped` is what the language's types give of every memory: see the contract of audit
+-- a fresh store, or one that the audit accepts, and the history that it begins. `Sized` has the lengths of the state's arrays, no more: their types fix them, and the contract of audit says it of every memory
 pub data Start : Store → History → Type 0 where
   afterMake : {S : Store} {h : History} (heap : List ℕ) → makes (length heap) ≡ true → MakeOutcome heap (gives []) S → h ≡ opening (length heap / 64) → Start S h
-  afterAudit : {S : Store} {h : History} → Shaped S → Outcome audit S (gives (1 ∷ [])) S → h ≡ begin S → Start S h
+  afterAudit : {S : Store} {h : History} → Sized S → Outcome audit S (gives (1 ∷ [])) S → h ≡ begin S → Start S h
 
 -- what holds of a store and what its calls told
 pub record Holds (h : History) (S : Store) : Type 0 where

@@ -5,8 +5,7 @@ use state::Done;
 use state::Reply;
 use state::State;
 ghost use mathlib.Core.Path.{_≡_};
-ghost use Prim.Native.Nat.{_<_};
-ghost use lib.ListN.{length, getD, drop};
+ghost use lib.ListN.{length, drop};
 ghost use Rattle.state.specs.declared.State.{State};
 ghost use Rattle.outcomes.specs.Outcome.{store};
 ghost use Rattle.drive.specs.Scripted.{Called, Scripted, ScriptedFrom};
@@ -51,27 +50,18 @@ fn with_part(s: State, heap: &[u32], slot: u32, r: Reply) -> Reply {
     q
 }
 
-// A line's third argument, which put sends: a number of 32 bits.
-fn third(l: Line) -> u32
-    ensures { λ r. ⌜ (r ≡ getD (l .args) 2 0) × (r < 4294967296) ⌝ }
-{
-    let a = l.args;
-    a[2]
-}
-
 // The call that a scanned line is, on the state and the heap as they are; nothing where it is none. (The reply printed for view has the length of its part.)
 fn called(s: State, heap: &mut [u32], l: Line) -> Done
-    ensures { λ d. ⌜ Called l (store s (now (heap .entry))) (store (d .state) (now (heap .exit))) × (getD (l .args) 2 0 < 4294967296) ⌝ }
+    ensures { λ d. ⌜ Called l (store s (now (heap .entry))) (store (d .state) (now (heap .exit))) ⌝ }
 {
     let a = l.args;
-    let c = third(l);
     let d = store::call(
         s,
         heap,
         l.call,
         a[0],
         a[1],
-        c,
+        a[2],
         a[3],
         cells::part(&a, 0, l.count as usize),
     );

@@ -3,7 +3,8 @@ pub mod Decided
 pub mod Examples
 pub mod Cases
 pub mod Steps
-pub mod Shaped
+pub mod Sized
+pub mod Bounded
 pub mod Values
 pub mod Begin
 pub mod Pointers

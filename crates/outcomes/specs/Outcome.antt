@@ -23,7 +23,7 @@ use Rattle.objects.specs.Objects.{kindOf, wordCount, markOf, wordAt, freeWordsO
 use Rattle.state.specs.declared.State.{State}
 use Rattle.state.specs.declared.Reply.{Reply}
 use Rattle.outcomes.specs.Store.{Store, frames, kinds, regions, pages, slot, outsideOf, ledInto, targetsIn, slotTargets, breaks, size, roomy}
-use Rattle.outcomes.specs.Sound.{Sound}
+use Rattle.outcomes.specs.Sound.{sound}
 
 -- what a call gives back, and the part that view hands back ([] for every other call), as an answer of the reference model
 abbrev pub answerOf : Reply → List ℕ → Answer
@@ -199,10 +199,6 @@ viewAnswer S s p = record { refusal = refusal S (view s); values = four []; part
 abbrev pub viewed : Store → ℕ → Answer
 viewed S v = record { refusal = 0; values = four []; part = take (wordCount (kinds S) (S .heap) v) (drop v (S .heap)) }
 
--- 1 exactly if the audit's condition holds, else 0 (document 01, Audit)
-abbrev pub Audited : Store → Answer → Type 0
-Audited S a = (Sound S → a ≡ gives (1 ∷ [])) × ((Sound S → ⊥) → a ≡ gives (0 ∷ []))
-
 unfoldable pub Accepted : Call → Store → Answer → Store → Type 0
 Accepted (declare ms) S a T = Leaves a (gives (((kinds S) .declared + 1) ∷ [])) T (withKinds S (withKind (kinds S) ms))
 Accepted newRegion S a T = Leaves a (gives (((regions S) .given + 1) ∷ [])) T (withRegions S (withRegion (regions S) (unused (regions S)) 0 1))
@@ -232,7 +228,8 @@ Accepted (report r) S a T =
     let t = tagOf (regions S) r in
     Leaves a (gives (countAt (regions S) i ∷ outsideOf S i ∷ pagesOf (pages S) t ∷ subregionsOf (regions S) t ∷ [])) T S
 Accepted totals S a T = Leaves a (gives (pagesOf (pages S) 0 ∷ liveCount (regions S) ∷ (frames S) .standing ∷ (frames S) .counted ∷ [])) T S
-Accepted audit S a T = Audited S a × (T ≡ S)
+-- 1 if the audit's condition holds, else 0
+Accepted audit S a T = Leaves a (gives (bit (sound S) ∷ [])) T S
 Accepted (delete r) S a T = Leaves a (gives (pagesOf (pages S) (tagOf (regions S) r) ∷ [])) T (deleted S r)
 
 -- a refused call answers its number and zeros, and leaves every word as it was

@@ -1,4 +1,5 @@
--- What the types of the language give of every memory: the lengths of the arrays, and the size of each number. The contract of audit says that every memory is so.
+-- What the types of the language give of every memory: the lengths of the arrays (`Sized`) and the size of each number (`Bounded`); `Shaped` is both.
+-- The contract of audit says `Sized` of every memory. That is what lists of calls ask of audited memory; only demand 1's promise on the size of numbers asks `Shaped`.
 -- Assumes nothing.
 use mathlib.Core.Path.{_≡_}
 use mathlib.Core.List.{List}
@@ -11,38 +12,77 @@ use Rattle.regions.specs.declared.Regions.{Regions}
 use Rattle.pages.specs.declared.Pages.{Pages}
 use Rattle.outcomes.specs.Store.{Store, frames, kinds, regions, pages}
 
--- an array of n numbers below `top`
-abbrev pub Array : ℕ → ℕ → List ℕ → Type 0
-Array n top l = (length l ≡ n) × All (λ x. x < top) l
+-- ---- the lengths of the arrays
 
-pub record FramesShaped (f : Frames) : Type 0 where
+pub record FramesSized (f : Frames) : Type 0 where
+  pub widths : length (f .widths) ≡ 32
+  pub slots : length (f .slots) ≡ 256
+
+pub record KindsSized (k : Kinds) : Type 0 where
+  pub sizes : length (k .sizes) ≡ 16
+  pub marks : length (k .marks) ≡ 256
+
+pub record RegionsSized (r : Regions) : Type 0 where
+  pub names : length (r .names) ≡ 64
+  pub parents : length (r .parents) ≡ 64
+  pub levels : length (r .levels) ≡ 64
+  pub counts : length (r .counts) ≡ 64
+  pub newest : length (r .newest) ≡ 64
+  pub oldest : length (r .oldest) ≡ 64
+
+pub record PagesSized (p : Pages) : Type 0 where
+  pub owners : length (p .owners) ≡ 256
+  pub taken : length (p .taken) ≡ 256
+
+pub record Sized (S : Store) : Type 0 where
+  pub inFrames : FramesSized (frames S)
+  pub inKinds : KindsSized (kinds S)
+  pub inRegions : RegionsSized (regions S)
+  pub inPages : PagesSized (pages S)
+
+-- ---- the size of each number: 8, 16 and 32 bits
+
+abbrev pub Bytes : List ℕ → Type 0
+Bytes l = All (λ x. x < 256) l
+
+abbrev pub Halves : List ℕ → Type 0
+Halves l = All (λ x. x < 65536) l
+
+abbrev pub Words : List ℕ → Type 0
+Words l = All (λ x. x < 4294967296) l
+
+pub record FramesBounded (f : Frames) : Type 0 where
   pub standing : f .standing < 4294967296
   pub counted : f .counted < 4294967296
-  pub widths : Array 32 256 (f .widths)
-  pub slots : Array 256 4294967296 (f .slots)
+  pub widths : Bytes (f .widths)
+  pub slots : Words (f .slots)
 
-pub record KindsShaped (k : Kinds) : Type 0 where
+pub record KindsBounded (k : Kinds) : Type 0 where
   pub declared : k .declared < 4294967296
-  pub sizes : Array 16 256 (k .sizes)
-  pub marks : Array 256 256 (k .marks)
+  pub sizes : Bytes (k .sizes)
+  pub marks : Bytes (k .marks)
 
-pub record RegionsShaped (r : Regions) : Type 0 where
+pub record RegionsBounded (r : Regions) : Type 0 where
   pub given : r .given < 4294967296
-  pub names : Array 64 4294967296 (r .names)
-  pub parents : Array 64 256 (r .parents)
-  pub levels : Array 64 256 (r .levels)
-  pub counts : Array 64 4294967296 (r .counts)
-  pub newest : Array 64 65536 (r .newest)
-  pub oldest : Array 64 4294967296 (r .oldest)
+  pub names : Words (r .names)
+  pub parents : Bytes (r .parents)
+  pub levels : Bytes (r .levels)
+  pub counts : Words (r .counts)
+  pub newest : Halves (r .newest)
+  pub oldest : Words (r .oldest)
 
-pub record PagesShaped (p : Pages) : Type 0 where
+pub record PagesBounded (p : Pages) : Type 0 where
   pub made : p .made < 4294967296
-  pub owners : Array 256 256 (p .owners)
-  pub taken : Array 256 256 (p .taken)
+  pub owners : Bytes (p .owners)
+  pub taken : Bytes (p .taken)
+
+pub record Bounded (S : Store) : Type 0 where
+  pub inFrames : FramesBounded (frames S)
+  pub inKinds : KindsBounded (kinds S)
+  pub inRegions : RegionsBounded (regions S)
+  pub inPages : PagesBounded (pages S)
+  pub heap : Words (S .heap)
 
 pub record Shaped (S : Store) : Type 0 where
-  pub inFrames : FramesShaped (frames S)
-  pub inKinds : KindsShaped (kinds S)
-  pub inRegions : RegionsShaped (regions S)
-  pub inPages : PagesShaped (pages S)
-  pub heap : All (λ x. x < 4294967296) (S .heap)
+  pub sized : Sized S
+  pub bounded : Bounded S

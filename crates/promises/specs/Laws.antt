@@ -3,4 +3,5 @@ pub mod Passed
 pub mod Refused
 pub mod Length
 pub mod Heap
+pub mod Sizes
 pub mod Keeps

@@ -6,15 +6,14 @@ use mathlib.Core.Bool.{true, false}
 use mathlib.Core.List.{List, [], _∷_}
 use Prim.Native.Nat.{ℕ, _+_, _*_, _≤_, _<_}
 use lib.ListN.{length, getD}
-use Rattle.lists.specs.Lists.{All}
+use Rattle.lists.specs.Lists.{bit, All}
 use Rattle.model.specs.Model.{Answer, Call, declare, newRegion, subregion, push, dropFrame, handBack, allocate, first, copy, fetch, clear, load, setPointer, put, get, view, same, about, report, totals, audit, delete, gives, refusedBy}
 use Rattle.model.specs.Calls.{makes}
 use Rattle.regions.specs.Regions.{entryOf}
 use Rattle.outcomes.specs.Store.{Store, regions, slot, size}
 use Rattle.outcomes.specs.History.{History, begin}
-use Rattle.outcomes.specs.Sound.{Sound}
+use Rattle.outcomes.specs.Sound.{sound, Sound}
 use Rattle.outcomes.specs.Shape.{Shaped}
-use Rattle.outcomes.specs.Runs.{Sent}
 use Rattle.outcomes.specs.Outcome.{Outcome, MakeOutcome, refusal, badLength, store, startOn, allocated}
 
 -- every call has an outcome on every memory
@@ -69,17 +68,21 @@ OnlyNamed =
     (c : Call) (S : Store) (a : Answer) (T : Store) → Outcome c S a T
     → (p : ℕ) → (getD (T .heap) p 0 ≡ getD (S .heap) p 0) ⊎ Named c S T p
 
--- an outcome is a value of the language's types: numbers stay below their width.
+-- a call's arguments are u32 numbers. Of them only put's value goes in unchecked, so only of it must that be said
+abbrev pub Sent : Call → Type 0
+Sent c = (s w x : ℕ) → c ≡ put s w x → x < 4294967296
+
+-- an outcome is a value of the language's types: arrays keep their lengths, and numbers stay below their width
 unfoldable pub KeepsShape : Type 0
 KeepsShape =
     (c : Call) (S : Store) (a : Answer) (T : Store) → Sent c → Shaped S → Outcome c S a T
     → Shaped T × All (λ x. x < 4294967296) (a .values)
 
--- audit answers 1 exactly where its condition holds, else 0, and changes nothing
+-- audit answers 1 where its condition holds, else 0, by an equation; 1 exactly where every clause does; and it changes nothing
 unfoldable pub AuditExact : Type 0
 AuditExact =
     (S : Store) (a : Answer) (T : Store) → Outcome audit S a T
-    → ((a ≡ gives (1 ∷ [])) ↔ Sound S) × ((a ≡ gives (1 ∷ [])) ⊎ (a ≡ gives (0 ∷ []))) × (T ≡ S)
+    → (a ≡ gives (bit (sound S) ∷ [])) × ((a ≡ gives (1 ∷ [])) ↔ Sound S) × (T ≡ S)
 
 -- no page, region, kind or frame
 abbrev pub nothing : History

@@ -16,7 +16,7 @@ use Rattle.regions.specs.Regions.{nameAt}
 use Rattle.outcomes.specs.Store.{Store, frames, regions, pages}
 use Rattle.outcomes.specs.History.{begin, entries, listedRegions, storedCount, uncountedInto, outside, countsExact}
 use Rattle.outcomes.specs.Sound.{Sound}
-use Rattle.outcomes.specs.Shape.{Shaped}
+use Rattle.outcomes.specs.Shape.{Sized}
 use Rattle.refinement.specs.Represents.{Represents}
 use Rattle.refinement.specs.Laws.Tags.{entry-name}
 use Rattle.histories.specs.Laws.Tells.{Tells}
@@ -46,8 +46,8 @@ module _ {L : Model} {sp : List ℕ} {ids : ℕ → List ℕ} (S : Store) (v : V
       true-every _ ((begin S) .regions) (all-change (λ i. test (nameAt (regions S) i) ≡ true) (λ g. test (g .name) ≡ true) _ (λ i e. e) (entries S)
       (entries-all S a (λ i. test (nameAt (regions S) i) ≡ true) (λ r l. ap test (entry-name (h .onRegions) r l) ∙ exact r l)))
 
-  pub audited : Shaped S → Sound S
-  audited sh = let names = sh .inRegions .names .0 in record {
+  pub audited : Sized S → Sound S
+  audited sh = let names = sh .inRegions .names in record {
     counts = counts;
     slots = slots-lead S t v (h .onFrames) (h .onObjects);
     words = words-lead S t v (h .onFrames) (h .onObjects);

@@ -8,7 +8,7 @@ use Rattle.model.specs.Paged.{Paged}
 use Rattle.outcomes.specs.Store.{Store, regions, pages}
 use Rattle.outcomes.specs.History.{begin}
 use Rattle.outcomes.specs.Sound.{Sound}
-use Rattle.outcomes.specs.Shape.{Shaped}
+use Rattle.outcomes.specs.Shape.{Sized}
 use Rattle.refinement.specs.Represents.{Represents}
 use Rattle.audited.specs.Rebuild.{places, idsOn, rebuilt}
 use Rattle.audited.specs.Laws.Rebuild.{rebuilt-valid, rebuilt-represents}
@@ -25,15 +25,15 @@ pub record Good (N : ℕ) (L : Model) (S : Store) : Type 0 where
   pub few : N ≤ 256
   pub valid : Valid L
   pub paged : Paged N L
-  pub shaped : Shaped S
+  pub sized : Sized S
   pub represents : Represents L places onPage S
 
 -- audited memory stands for the model that it lists
-unfoldable pub audited-good : (S : Store) → Shaped S → Sound S → Good ((pages S) .made) (rebuilt S) S
+unfoldable pub audited-good : (S : Store) → Sized S → Sound S → Good ((pages S) .made) (rebuilt S) S
 audited-good S sh so =
     let v = rebuilt-valid S sh so in
     let h = rebuilt-represents S sh so in
-    record { places = places S; onPage = idsOn S; few = h .onPages .most; valid = v; paged = paged S (agrees v h); shaped = sh; represents = h }
+    record { places = places S; onPage = idsOn S; few = h .onPages .most; valid = v; paged = paged S (agrees v h); sized = sh; represents = h }
 
 module _ {N : ℕ} {L : Model} {S : Store} (g : Good N L S) where
   pub lists : Tells L (g .places) (begin S)

@@ -16,7 +16,7 @@ use Rattle.regions.specs.Regions.{countAt, entryOf}
 use Rattle.outcomes.specs.Store.{Store, regions}
 use Rattle.outcomes.specs.History.{begin, storedCount, uncountedInto, outside, countsExact}
 use Rattle.outcomes.specs.Sound.{Sound}
-use Rattle.outcomes.specs.Shape.{Shaped}
+use Rattle.outcomes.specs.Shape.{Sized}
 use Rattle.refinement.specs.Represents.{Represents}
 use Rattle.audited.specs.Rebuild.{places, idsOn, rebuilt}
 use Rattle.histories.specs.Laws.Tells.{listed}
@@ -29,7 +29,7 @@ use Rattle.audited.specs.Laws.RebuildTiles.{objects-agree}
 use Rattle.audited.specs.Laws.AuditedObjects.{Agrees}
 use Rattle.audited.specs.Laws.AuditedLists.{begin-tells}
 
-module _ (S : Store) (sh : Shaped S) (so : Sound S) where
+module _ (S : Store) (sh : Sized S) (so : Sound S) where
   pub rebuilt-valid : Valid (rebuilt S)
   unfolding rebuilt
   rebuilt-valid = record {

@@ -19,7 +19,7 @@ use Rattle.lists.specs.Laws.Kept.{any-index}
 use Rattle.model.specs.Model.{noObject, object, livesIn, homeIn}
 use Rattle.pages.specs.Pages.{ownerAt}
 use Rattle.outcomes.specs.Store.{Store, pages}
-use Rattle.outcomes.specs.Shape.{Shaped}
+use Rattle.outcomes.specs.Shape.{Sized}
 use Rattle.outcomes.specs.History.{begin, leads, homeOf, at}
 use Rattle.outcomes.specs.Laws.Begin.{holderOf, headers, objectAt, begin-objects, home-is, home-none, leads-null}
 use Rattle.refinement.specs.Represents.{spot, Alive}
@@ -90,7 +90,7 @@ module _ (S : Store) where
     pub null : eqb (idOf (places S) v) 0 ≡ eqb v 0
     pub live : (eqb (idOf (places S) v) 0 || livesIn (rebuilt S) (homeIn (rebuilt S) (idOf (places S) v))) ≡ true
 
-  module _ (sh : Shaped S) where
+  module _ (sh : Sized S) where
     pub alive-at : (i : ℕ) → i < length (headers S) → Alive (rebuilt S) (suc i)
     unfolding readObject
     alive-at i h = ap (λ o. livesIn (rebuilt S) (o .home)) (object-at i h) ∙ live-name S sh (ownerAt (pages S) (header i / 64)) (stands-at i h .held)

@@ -23,7 +23,7 @@ use Rattle.outcomes.specs.Store.{Store, kinds, regions, pages}
 use Rattle.outcomes.specs.History.{begin, entries, listedKinds, listedRegions, pointersOf, wordsLead, leads, homeOf, parentOf}
 use Rattle.outcomes.specs.History as history
 use Rattle.outcomes.specs.Sound.{Sound}
-use Rattle.outcomes.specs.Shape.{Shaped}
+use Rattle.outcomes.specs.Shape.{Sized}
 use Rattle.outcomes.specs.Laws.Begin.{holderOf, headers, objectAt, begin-objects}
 use Rattle.outcomes.specs.Laws.Pointers.{valueAt, marks-length, marks-at, every-pointer}
 use Rattle.refinement.specs.Represents.{spot, Alive, Laid}
@@ -60,7 +60,7 @@ module _ (S : Store) where
       getD-map-upTo (readWord S q) 0 (wordsAt S q) w h
       ∙ ap (λ k. pick (eqb k 0) (valueAt S q w) (idOf (places S) (valueAt S q w))) (marks-at S (getD (S .heap) q 0) w (omega (arith, marks-length S (getD (S .heap) q 0))))
 
-  module _ (sh : Shaped S) (so : Sound S) where
+  module _ (sh : Sized S) (so : Sound S) where
     -- what the audit's test says of a pointer word
     abbrev test : ℕ → ℕ → ℕ → Bool
     test q k x = eqb x 0 || (leads (begin S) x && rule k (homeOf (begin S) x) (holderOf S (q / 64)) (parentOf (begin S) (holderOf S (q / 64))))

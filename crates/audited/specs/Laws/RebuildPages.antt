@@ -17,7 +17,7 @@ use Rattle.pages.specs.Pages.{pageCount, ownerAt, takenAt}
 use Rattle.objects.specs.Objects.{headersOn}
 use Rattle.outcomes.specs.Store.{Store, kinds, regions, pages}
 use Rattle.outcomes.specs.Sound.{Sound, filled, newestOwn}
-use Rattle.outcomes.specs.Shape.{Shaped}
+use Rattle.outcomes.specs.Shape.{Sized}
 use Rattle.outcomes.specs.Laws.Begin.{holderOf, pages-held, pages-filled}
 use Rattle.refinement.specs.Represents.{RoomAgrees, PagesAgree}
 use Rattle.audited.specs.Rebuild.{roomAt, readRegion, rebuilt}
@@ -26,7 +26,7 @@ use Rattle.audited.specs.Laws.RebuildObjects.{wordsAt, on-stacked}
 use Rattle.audited.specs.Laws.RebuildStack.{within-is}
 use Rattle.audited.specs.Laws.RebuildRegions.{each-entry, live-name, tag-name, read}
 
-module _ (S : Store) (sh : Shaped S) (so : Sound S) where
+module _ (S : Store) (sh : Sized S) (so : Sound S) where
   pages-some : (1 ≤ (pages S) .made) × ((pages S) .made ≤ 256)
   pages-some = within-is 1 256 ((pages S) .made) (so .made)
 
@@ -37,14 +37,14 @@ module _ (S : Store) (sh : Shaped S) (so : Sound S) where
   -- a page that is not free is a live region's
   pub held : (j : ℕ) → j < (pages S) .made → ownerAt (pages S) j ≢ 0 → holderOf S j ≢ 0
   held j h n z =
-      let e = every-each _ (pageCount (pages S)) (sym (pages-held S (sh .inRegions .names .0)) ∙ so .held) j (omega (arith, pages-all)) in
+      let e = every-each _ (pageCount (pages S)) (sym (pages-held S (sh .inRegions .names)) ∙ so .held) j (omega (arith, pages-all)) in
       false≢true (rw (ne-eqb (ownerAt (pages S) j) 0 n, eq-eqb (holderOf S j) 0 z) at e)
 
   -- its objects take just the words that are taken
   pub taken-sum : (j : ℕ) → j < (pages S) .made → ownerAt (pages S) j ≢ 0 → sumOf (λ q. 1 + wordsAt S q) (headersOn (kinds S) (S .heap) (pages S) j) ≡ getD ((pages S) .taken) j 0
   unfolding filled
   taken-sum j h n =
-      let e = every-each _ (pageCount (pages S)) (sym (pages-filled S (sh .inRegions .names .0)) ∙ so .filling) j (omega (arith, pages-all)) in
+      let e = every-each _ (pageCount (pages S)) (sym (pages-filled S (sh .inRegions .names)) ∙ so .filling) j (omega (arith, pages-all)) in
       eqb-true _ _ (or-other (eqb (holderOf S j) 0) (filled S (record { page = j; region = holderOf S j })) e (ne-eqb (holderOf S j) 0 (held j h n)))
 
   pub full : (j : ℕ) → j < (pages S) .made → ownerAt (pages S) j ≢ 0 → getD ((pages S) .taken) j 0 ≤ 64

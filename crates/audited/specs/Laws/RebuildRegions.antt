@@ -21,7 +21,7 @@ use Rattle.regions.specs.Regions.{nameAt, nameOf, entryOf, tagOf, entryIn, name
 use Rattle.outcomes.specs.Store.{Store, regions}
 use Rattle.outcomes.specs.History.{entries}
 use Rattle.outcomes.specs.Sound.{Sound}
-use Rattle.outcomes.specs.Shape.{Shaped}
+use Rattle.outcomes.specs.Shape.{Sized}
 use Rattle.outcomes.specs.Laws.Begin.{used-below, name-times, entry-is}
 use Rattle.audited.specs.Rebuild.{readRegion, rebuilt}
 
@@ -46,9 +46,9 @@ entries-by S f = sum-keep (λ i. f (nameAt (regions S) i)) (used (regions S)) (u
     go i true = refl
     go i false = refl
 
-module _ (S : Store) (sh : Shaped S) where
+module _ (S : Store) (sh : Sized S) where
   below : (i : ℕ) → nameAt (regions S) i ≢ 0 → i < 64
-  below = used-below S (sh .inRegions .names .0)
+  below = used-below S (sh .inRegions .names)
 
   -- what a test over the entries says of each
   pub each-entry : (f : ℕ → Bool) → every f (entries S) ≡ true → (i : ℕ) → nameAt (regions S) i ≢ 0 → f i ≡ true
@@ -99,7 +99,7 @@ module _ (S : Store) (sh : Shaped S) where
     few i h = sym (name-times S (nameAt (regions S) i) h) ∙ eqb-true (times (nameAt (regions S) i) (map (nameAt (regions S)) (entries S))) 1 (each-entry _ (so .distinct) i h)
 
     entry-used : (i : ℕ) → nameAt (regions S) i ≢ 0 → entryOf (regions S) (nameAt (regions S) i) ≡ i
-    entry-used = entry-is S (sh .inRegions .names .0) few
+    entry-used = entry-is S (sh .inRegions .names) few
 
     find-used : (i : ℕ) → nameAt (regions S) i ≢ 0 → findOr (λ k. eqb (nameAt (regions S) k) (nameAt (regions S) i)) 64 (upTo 64) ≡ i
     unfolding entryOf entryIn nameAt

@@ -22,7 +22,7 @@ use Rattle.kinds.specs.Kinds.{kindCount, sizeOf, sizeIn}
 use Rattle.outcomes.specs.Store.{Store, frames, kinds}
 use Rattle.outcomes.specs.History.{begin, listedKinds, listedFrames, slotsLead, leads}
 use Rattle.outcomes.specs.Sound.{Sound, within}
-use Rattle.outcomes.specs.Shape.{Shaped}
+use Rattle.outcomes.specs.Shape.{Sized}
 use Rattle.outcomes.specs.Laws.Pointers.{kinds-length, marks-length, marks-at, every-slot}
 use Rattle.refinement.specs.Represents.{FramesAgree, KindsAgree}
 use Rattle.audited.specs.Rebuild.{places, idOf, readFrame, rebuilt}
@@ -35,7 +35,7 @@ within-is a b n e = let t = both (leb a n) (leb n b) e in (leb-true a n (t .0), 
 pub is-within : (a b n : ℕ) → a ≤ n → n ≤ b → within a b n ≡ true
 is-within a b n h k = rw (le-leb a n h, le-leb n b k)
 
-module _ (S : Store) (sh : Shaped S) (so : Sound S) where
+module _ (S : Store) (sh : Sized S) (so : Sound S) where
   -- ---- kinds
 
   sizes-few : (n : ℕ) → n < (kinds S) .declared → (1 ≤ getD ((kinds S) .sizes) n 0) × (getD ((kinds S) .sizes) n 0 ≤ 16)

@@ -22,7 +22,7 @@ use Rattle.pages.specs.Pages.{pageCount, ownerAt, ownerIn, ownerOf, takenAt}
 use Rattle.objects.specs.Objects.{walk, headersTo, headersOn}
 use Rattle.outcomes.specs.Store.{Store, kinds, regions, pages}
 use Rattle.outcomes.specs.Sound.{Sound}
-use Rattle.outcomes.specs.Shape.{Shaped}
+use Rattle.outcomes.specs.Shape.{Sized}
 use Rattle.outcomes.specs.Laws.Begin.{holderOf, headersOf, headers}
 use Rattle.refinement.specs.Represents.{spot, Alive, wordsIn, idsIn, Laid, Tiles, ObjectsAgree}
 use Rattle.audited.specs.Rebuild.{places, idOf, idsOn, readObject, rebuilt}
@@ -40,7 +40,7 @@ met-index S j h = all-map (λ q e.
     let t = any-index (λ x. eqb x q) (headers S) 0 (any-joined (λ x. eqb x q) (headersOf S) (upTo (pageCount (pages S))) ∙ any-one (λ j. among q (headersOf S j)) (pageCount (pages S)) j h e) in
     (t .0, t .1, eqb-true (header S (t .0)) q (t .2))) (headersOf S j) (among-self (headersOf S j))
 
-module _ (S : Store) (sh : Shaped S) (so : Sound S) where
+module _ (S : Store) (sh : Sized S) (so : Sound S) where
   -- the id of the object at place q, and what the model says of it
   abbrev id : ℕ → ℕ
   id q = idOf (places S) (q + 1)

@@ -22,7 +22,7 @@ use Rattle.regions.specs.Regions.{nameAt, nameOf, entryOf, parentAt, levelAt, o
 use Rattle.outcomes.specs.Store.{Store, regions}
 use Rattle.outcomes.specs.History.{begin, entries, leads, homeOf}
 use Rattle.outcomes.specs.Sound.{Sound, placed, oldestOwn}
-use Rattle.outcomes.specs.Shape.{Shaped}
+use Rattle.outcomes.specs.Shape.{Sized}
 use Rattle.refinement.specs.Represents.{tagFor, RegionsAgree}
 use Rattle.audited.specs.Rebuild.{places, readRegion, rebuilt}
 use Rattle.refinement.specs.Laws.Tags.{for-some}
@@ -39,7 +39,7 @@ distinct-few (g ∷ gs) h = (none, distinct-few gs (all-map (λ x k. omega (arit
         one : bit (eqb (g .name) (g .name)) ≡ 1
         one = rw (eq-eqb (g .name) (g .name) refl)
 
-module _ (S : Store) (sh : Shaped S) (so : Sound S) where
+module _ (S : Store) (sh : Sized S) (so : Sound S) where
   -- the region above entry i: none, or one that lives
   record Below (i p : ℕ) : Type 0 where
     parent : parentAt (regions S) i ≡ suc p

@@ -7,11 +7,12 @@ use mathlib.Core.List.{[], _∷_}
 use Prim.Native.Nat.{ℕ, _<_}
 use lib.ListN.{length}
 use borrow.Author.Tests.{eqb-true}
-use Rattle.lists.specs.Laws.Tests.{both}
+use Rattle.lists.specs.Laws.Tests.{both, by-test}
 use Rattle.regions.specs.Regions.{nameAt}
 use Rattle.regions.specs.Laws.Counts.{Counts}
 use Rattle.outcomes.specs.Store.{Store, regions}
-use Rattle.outcomes.specs.Sound.{Sound, newestOwn, oldestOwn}
+use Rattle.outcomes.specs.Sound.{sound, Sound, newestOwn, oldestOwn}
+use Rattle.outcomes.specs.Laws.Decided.{sound-is, is-sound}
 use Rattle.outcomes.specs.Laws.Begin.{every-entry, used-below}
 use Rattle.outcomes.specs.Laws.Pointers.{Ordered}
 use Rattle.audit_regions.specs.Filed.{namesakes}
@@ -51,7 +52,7 @@ module _ (S : Store) (names : length ((regions S) .names) ≡ 64) (cs : Counts (
       sym (every-entry S own)
       ∙ entry-each S own (λ i l n. rw (← newest-same S i, ← oldest-same S o i n, each-entry S (newestOwn S) (h .newest) i l n) (each-entry S (oldestOwn S) (h .oldest) i l n))
 
-  pub sound-passes : Sound S → passes (S .state) (S .heap) ≡ true
+  sound-passes : Sound S → passes (S .state) (S .heap) ≡ true
   sound-passes h =
       let a = state-passes S h in
       let b = pages-pass S names h in
@@ -60,7 +61,7 @@ module _ (S : Store) (names : length ((regions S) .names) ≡ 64) (cs : Counts (
       let w = sym (words-same S o) ∙ h .words in
       all-tests ∙ rw (a, b, same-own o h, f, w) (sym (counts-same S (h .standing) (h .counted) (sym (widths-same S) ∙ h .widths) o cs f w) ∙ h .counts)
 
-  pub passes-sound : passes (S .state) (S .heap) ≡ true → Sound S
+  passes-sound : passes (S .state) (S .heap) ≡ true → Sound S
   passes-sound e =
       let all = folded-true statePasses ((pagesPass S && entriesPass S && slotsPass S && wordsPass S) ∷ countsPass S ∷ []) (sym all-tests ∙ e) in
       let t = folded-true (pagesPass S) (entriesPass S ∷ slotsPass S ∷ wordsPass S ∷ []) (all .1 .0) in
@@ -93,3 +94,8 @@ module _ (S : Store) (names : length ((regions S) .names) ≡ 64) (cs : Counts (
         newest = entry-each S (newestOwn S) (λ i l n. own-same o (t .1 .0) i l n .0);
         oldest = entry-each S (oldestOwn S) (λ i l n. own-same o (t .1 .0) i l n .1);
       }
+
+  -- so they come to the audit's answer
+  pub passes-same : passes (S .state) (S .heap) ≡ sound S
+  passes-same =
+      by-test (passes (S .state) (S .heap)) (λ p. p ∙ sym (is-sound S (passes-sound p))) (λ p. by-test (sound S) (λ e. sound-passes (sound-is S e) ∙ sym e) (λ e. p ∙ sym e))

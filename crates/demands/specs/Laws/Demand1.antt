@@ -40,7 +40,7 @@ makes-kept heap a T o = (
         q .0,
         ap (λ U. length (U .heap)) (q .1) ∙ length-replicate (length heap) 0,
         rw (q .1) (all-replicate (λ w. w ≡ 0) (length heap) 0 refl),
-        audited T (g .valid) (g .represents) (g .shaped),
+        audited T (g .valid) (g .represents) (g .sized),
       )),
   (λ e.
       let q = rw e at o in

@@ -14,7 +14,7 @@ use Rattle.outcomes.specs.Outcome.{MakeOutcome}
 use Rattle.promises.specs.Promises.{AuditExact}
 use Rattle.promises.specs.Laws.Refused.{audit-exact}
 use Rattle.audited.specs.Rebuild.{rebuilt}
-use Rattle.refinement.specs.Laws.Fresh.{make-pages, make-answers, make-represents, make-shaped}
+use Rattle.refinement.specs.Laws.Fresh.{make-pages, make-answers, make-represents, make-sized}
 use Rattle.audited.specs.Laws.Good.{Good, audited-good}
 use Rattle.demands.specs.Demands.{Demand2, AuditedAnswers}
 use Rattle.demands.specs.Laws.Steps.{run-follows}
@@ -27,7 +27,7 @@ made-good heap a S ok o = record {
   few = make-pages (length heap) ok .1;
   valid = fresh-valid (length heap / 64);
   paged = fresh-paged (length heap / 64);
-  shaped = make-shaped heap a S ok o;
+  sized = make-sized heap a S ok o;
   represents = make-represents heap a S ok o;
 }
 
@@ -38,5 +38,5 @@ demand2 heap a S ok o es T r = (make-answers heap a S ok o, run-follows (made-go
 pub audited-answers : AuditedAnswers
 unfolding AuditedAnswers AuditExact
 audited-answers S sh o =
-    let g = audited-good S sh (audit-exact S (gives (1 ∷ [])) S o .0 .0 refl) in
+    let g = audited-good S sh (audit-exact S (gives (1 ∷ [])) S o .1 .0 refl) in
     (rebuilt S, g .valid, λ es T r. run-follows g r .0)

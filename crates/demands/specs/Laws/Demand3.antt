@@ -40,16 +40,16 @@ start-told S h (afterMake heap ok o e) =
     let g = made-good heap (gives []) S ok o in
     (length heap / 64, fresh (length heap / 64), rw (e ∙ sym (starts-agree heap (gives []) S ok o)) (begins g))
 start-told S h (afterAudit sh o e) =
-    let g = audited-good S sh (audit-exact S (gives (1 ∷ [])) S o .0 .0 refl) in
+    let g = audited-good S sh (audit-exact S (gives (1 ∷ [])) S o .1 .0 refl) in
     ((pages S) .made, rebuilt S, rw e (begins g))
 
 pub runs-exist : RunsExist
 unfolding RunsExist Total
-runs-exist [] z S = ([], S, done, refl)
-runs-exist (c ∷ cs) z S =
+runs-exist [] S = ([], S, done, refl)
+runs-exist (c ∷ cs) S =
     let o = total c S in
-    let more = runs-exist cs (z .1) (o .1) in
-    (record { call = c; answer = o .0; left = o .1 } ∷ more .0, more .1, step (z .0) (o .2) (more .2), ap (λ l. c ∷ l) (more .3))
+    let more = runs-exist cs (o .1) in
+    (record { call = c; answer = o .0; left = o .1 } ∷ more .0, more .1, step (o .2) (more .2), ap (λ l. c ∷ l) (more .3))
 
 pub demand3 : Demand3
 unfolding Demand3
@@ -64,7 +64,7 @@ unfolding StaysSound AuditExact
 stays-sound S h s es T U a r o =
     let b = start-told S h s in
     let k = run-told (b .2) r .1 in
-    audit-exact T a U o .0 .1 (audited T (k .good .valid) (k .good .represents) (k .good .shaped))
+    audit-exact T a U o .1 .1 (audited T (k .good .valid) (k .good .represents) (k .good .sized))
 
 pub stays-shown : StaysShown
 unfolding StaysShown

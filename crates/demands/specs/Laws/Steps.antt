@@ -9,7 +9,7 @@ use native.Mathlib.Omega.{arith}
 use lib.ListN.{length, set}
 use lib.Seq.{getD-set-same}
 use borrow.Author.Tests.{eqb-false, leb-false, not-false}
-use Rattle.lists.specs.Lists.{pick}
+use Rattle.lists.specs.Lists.{bit, pick}
 use Rattle.model.specs.Model.{Model, Answer, Call, declare, newRegion, subregion, push, dropFrame, handBack, allocate, first, copy, fetch, clear, load, setPointer, put, get, view, same, about, report, totals, audit, delete}
 use Rattle.model.specs.Model.{livesIn, topPlace, top, stored, gives}
 use Rattle.model.specs.Calls.{checks, refusal, noFrame, lacks, reply, accepted, answer, answerBy, next, nextBy, run, after}
@@ -24,13 +24,14 @@ use Rattle.regions.specs.Laws.Recount.{recount-beside}
 use Rattle.pages.specs.Pages.{takenAt, withTaken}
 use Rattle.outcomes.specs.Store.{Store, frames, regions, pages, roomy, size}
 use Rattle.outcomes.specs.History.{History, begin}
-use Rattle.outcomes.specs.Shape.{Shaped}
+use Rattle.outcomes.specs.Shape.{Sized}
 use Rattle.outcomes.specs.Outcome.{Chosen, allocated, fillSlot, popFrame, pointed, writeWord, recounted, deleted, Accepted, Answered, Outcome, refusal as storeRefusal}
-use Rattle.promises.specs.Promises.{Refusals, KeepsShape}
-use Rattle.promises.specs.Laws.Keeps.{keeps-shape}
+use Rattle.outcomes.specs.Laws.Decided.{is-sound}
+use Rattle.promises.specs.Promises.{Refusals}
+use Rattle.promises.specs.Laws.Sizes.{keeps-size}
 use Rattle.promises.specs.Laws.Refused.{refusals}
 use Rattle.refinement.specs.Represents.{Represents}
-use Rattle.outcomes.specs.Runs.{Event, calls, answers, Run, done, step, Sent}
+use Rattle.outcomes.specs.Runs.{Event, calls, answers, Run, done, step}
 use Rattle.refinement.specs.Laws.Tags.{unused-free}
 use Rattle.refinement.specs.Laws.Reads.{top-frame, frame-small}
 use Rattle.refinement.specs.Laws.Refusals.{refusals-agree}
@@ -73,13 +74,13 @@ deleted-names S r = ap (λ l. set l (entryOf (regions S) r) 0) (recount-beside _
 
 module _ {L : Model} {sp : List ℕ} {ids : ℕ → List ℕ} {S : Store} (rep : Represents L sp ids S) where
   -- the slot then holds the pointer of the object made on page j
-  shown-is : Valid L → Shaped S → {h : History} → Tells L sp h → (s i k j : ℕ) → noFrame L ≡ false → lacks (top L) s ≡ false
+  shown-is : Valid L → Sized S → {h : History} → Tells L sp h → (s i k j : ℕ) → noFrame L ≡ false → lacks (top L) s ≡ false
       → slotAfter h (allocated S s i k j) s ≡ 64 * j + pick (roomy S i (size S k)) (takenAt (pages S) j) 0 + 1
   unfolding allocated fillSlot putSlot slotAt
   shown-is v sh {h} t s i k j n m =
       let e : length (h .frames) - 1 ≡ topFrame (frames S) = ap (λ n. n - 1) (frames-length t) ∙ sym (top-frame (rep .onFrames)) in
       let b : 8 * topFrame (frames S) + s < length ((frames S) .slots) =
-      omega (arith, top-frame (rep .onFrames), v .frames .many, eqb-false (length (L .frames)) 0 n, leb-false (length (top L)) s m, frame-small (L .frames) (v .frames .sized) (topPlace (L .frames)), sh .inFrames .slots .0) in
+      omega (arith, top-frame (rep .onFrames), v .frames .many, eqb-false (length (L .frames)) 0 n, leb-false (length (top L)) s m, frame-small (L .frames) (v .frames .sized) (topPlace (L .frames)), sh .inFrames .slots) in
       rw e (getD-set-same ((frames S) .slots) (8 * topFrame (frames S) + s) _ 0 b)
 
 -- ---- accepted calls
@@ -91,8 +92,8 @@ module _ {N : ℕ} {L : Model} {S : Store} {h : History} (k : Told N L S h) (a :
   v : Valid L
   v = g .valid
 
-  sh : Shaped S
-  sh = g .shaped
+  sh : Sized S
+  sh = g .sized
 
   rep : Represents L (g .places) (g .onPage) S
   rep = g .represents
@@ -138,7 +139,7 @@ module _ {N : ℕ} {L : Model} {S : Store} {h : History} (k : Told N L S h) (a :
         subst (λ o. Represents (accepted L (allocate s r k)) (g .places ++ (o ∷ [])) on T) n (allocated-represents L (g .places) (g .onPage) S v sh rep r k j l s e c),
         subst⁻¹ (λ o. Tells (accepted L (allocate s r k)) (g .places ++ (suc x ∷ [])) (objectMade h r k o)) z (fill-told (object-told t r k x l (rep .onObjects .known)) s _),
         subst⁻¹ (λ o. TellsPages (objectMade h r k o) ((regions S) .names) (pages T)) z (subst (λ j. TellsPages (objectMade h r k (suc x)) ((regions S) .names) (withTaken (pages S) j (tagOf (regions S) r) (pick (roomy S i (size S k)) (takenAt (pages S) j) 0 + size S k))) y
-            (placed-pages (rep .onRegions) (rep .onPages) u r l k _ x (omega (arith, y, f .1, rep .onPages .most, sh .inPages .owners .0)) (omega (arith, y, f .1)) (rw y (f .0)))),
+            (placed-pages (rep .onRegions) (rep .onPages) u r l k _ x (omega (arith, y, f .1, rep .onPages .most, sh .inPages .owners)) (omega (arith, y, f .1)) (rw y (f .0)))),
       )
 
   accepted-told : (c : Call) → refusal L c ≡ 0 → Accepted c S a T → After c T
@@ -167,17 +168,17 @@ module _ {N : ℕ} {L : Model} {S : Store} {h : History} (k : Told N L S h) (a :
   accepted-told (about s) e q = stays (about s) (about-step L _ _ S v rep a T s e q) t (rw (q .1) u)
   accepted-told (report r) e q = stays (report r) (report-step L _ _ S v rep a T r (outside-bound L v (g .paged) (g .few)) e q) t (rw (q .1) u)
   accepted-told totals e q = stays totals (totals-step L _ _ S v rep a T q) t (rw (q .1) u)
-  accepted-told audit e q = stays audit (q .0 .0 (audited S v rep sh), rw (q .1) rep) t (rw (q .1) u)
+  accepted-told audit e q = stays audit (q .0 ∙ ap (λ b. gives (bit b ∷ [])) (is-sound S (audited S v rep sh)), rw (q .1) rep) t (rw (q .1) u)
   accepted-told (delete r) e q =
       stays (delete r) (delete-step L _ _ S v rep a T r sh (outside-bound L v (g .paged) (g .few)) e q) (remove-told t r)
       (rw (q .1, deleted-names S r) (ended-pages (rep .onRegions) (rep .onPages) u r (not-false (livesIn L r) (passed L (delete r) e .0))))
 
 -- ---- any call
 
-pub told-step : {N : ℕ} {L : Model} {S : Store} {h : History} → Told N L S h → (e : Event) → Sent (e .call) → Outcome (e .call) S (e .answer) (e .left)
+pub told-step : {N : ℕ} {L : Model} {S : Store} {h : History} → Told N L S h → (e : Event) → Outcome (e .call) S (e .answer) (e .left)
     → (e .answer ≡ answer L (e .call)) × Told N (next L (e .call)) (e .left) (note e h)
-unfolding Outcome answer next note KeepsShape Refusals
-told-step {N} {L} {S} {h} k e z o = subst⁻¹ (λ n. (e .answer ≡ answerBy (refusal L (e .call)) L (e .call)) × Told N (next L (e .call)) (e .left) (noteBy n e h)) (refusals (e .call) S (e .answer) (e .left) o .0 ∙ agree)
+unfolding Outcome answer next note Refusals
+told-step {N} {L} {S} {h} k e o = subst⁻¹ (λ n. (e .answer ≡ answerBy (refusal L (e .call)) L (e .call)) × Told N (next L (e .call)) (e .left) (noteBy n e h)) (refusals (e .call) S (e .answer) (e .left) o .0 ∙ agree)
     (go (refusal L (e .call)) refl (subst (λ n. Answered n (e .call) S (e .answer) (e .left)) agree o))
   where
     agree : storeRefusal S (e .call) ≡ refusal L (e .call)
@@ -192,7 +193,7 @@ told-step {N} {L} {S} {h} k e z o = subst⁻¹ (λ n. (e .answer ≡ answerBy (r
         few = k .good .few;
         valid = subst (λ n. Valid (nextBy n L (e .call))) q (next-valid L (e .call) (k .good .valid));
         paged = subst (λ n. Paged N (nextBy n L (e .call))) q (next-paged L (k .good .valid) (k .good .paged) (e .call));
-        shaped = keeps-shape (e .call) S (e .answer) (e .left) z (k .good .shaped) o .0;
+        sized = keeps-size (e .call) S (e .answer) (e .left) (k .good .sized) o;
         represents = r;
       };
       tells = t;
@@ -208,8 +209,8 @@ told-step {N} {L} {S} {h} k e z o = subst⁻¹ (λ n. (e .answer ≡ answerBy (r
 pub run-told : {N : ℕ} {L : Model} {S T : Store} {h : History} {es : List Event} → Told N L S h → Run S es T → (answers es ≡ run L (calls es)) × Told N (after L (calls es)) T (history h es)
 unfolding run
 run-told k done = (refl, k)
-run-told k (step {S} {U} {e} {es} z o r) =
-    let f = told-step k e z o in
+run-told k (step {S} {U} {e} {es} o r) =
+    let f = told-step k e o in
     let m = run-told (f .1) r in
     (ap₂ _∷_ (f .0) (m .0), m .1)
 

@@ -5,14 +5,12 @@ use Rattle.drive.proofs.called.Tie as tie
 returns : tie.Need-returns
 returns c =
     let k = c .before .before .before .before .before .before .before .before in
-    let x = k .before .before .before .before .before .third .ensures in
-    ((k .call .result .reply, rw (k .before .part .ensures, x .0) at (k .call .ensures)), rw (x .0) at (x .1))
+    (k .call .result .reply, rw (k .before .part .ensures) at (k .call .ensures))
 
 returns-2 : tie.Need-returns-2
 returns-2 c =
     let k = c .before .before .before .before .before .before in
-    let x = k .before .before .before .before .before .third .ensures in
-    ((k .call .result .reply, rw (k .before .part .ensures, x .0) at (k .call .ensures)), rw (x .0) at (x .1))
+    (k .call .result .reply, rw (k .before .part .ensures) at (k .call .ensures))
 
 pub called-spec : {M : Type 1} → statement M
-called-spec = tie.close (tie.spec (λ c κs. search needs) (λ c. search needs) (λ c. search needs) (λ c. search needs) (λ c. search needs) (λ c. search needs) (λ c κs. search needs) (λ c κs. search needs) (λ c. search needs) (λ c κs. search needs) (λ c. search needs) returns (λ c. search needs) returns-2)
+called-spec = tie.close (tie.spec (λ c. search needs) (λ c. search needs) (λ c. search needs) (λ c. search needs) (λ c. search needs) (λ c. search needs) (λ c κs. search needs) (λ c κs. search needs) (λ c. search needs) (λ c κs. search needs) (λ c. search needs) returns (λ c. search needs) returns-2)

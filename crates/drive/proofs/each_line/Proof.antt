@@ -31,7 +31,7 @@ loop-again c =
     let a = l .before .before .before .before .args in
     let text = a .text .now in
     let i = l .loop .inv .2 in
-    let f = called-next (z .before .before .scan .result) (z .called .ensures .1) (z .called .ensures .0) (i .1) in
+    let f = called-next (z .before .before .scan .result) (z .called .ensures) (i .1) in
     let e = scripted-next text (l .loop .at) (v .line-at .result .now) (omega arith) (v .line-at .ensures) in
     let rest = scripted (drop (l .loop .at + length (v .line-at .result .now) + 1) text) in (
       search needs,

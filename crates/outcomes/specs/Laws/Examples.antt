@@ -12,9 +12,8 @@ use Rattle.regions.specs.Regions.{nameAt, nameOf, entryOf, parentAt, levelAt, n
 use Rattle.pages.specs.Pages.{pageCount, ownerAt, takenAt, isFree}
 use Rattle.objects.specs.Objects.{walk, headersTo, headersOn}
 use Rattle.outcomes.specs.History.{entries, listedRegions, listedKinds, listedFrames, listedHeld, listedFree, metOn, begin, slotsOf, pointersOf, leads, homeOf, slotsLeadingTo, wordsLeadingTo, outside, uncountedInto, storedCount, countsExact, slotsLead, wordsLead, pagesHeld}
-use Rattle.outcomes.specs.Sound.{filled, placed, newestOwn, oldestOwn}
+use Rattle.outcomes.specs.Sound.{filled, placed, newestOwn, oldestOwn, clauses}
 use Rattle.outcomes.specs.Examples.{Example, small, examples}
-use Rattle.outcomes.specs.Laws.Decided.{clauses}
 
 -- the places of the tests that fail
 abbrev failing : ℕ → List Bool → List ℕ

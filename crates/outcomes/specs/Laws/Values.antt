@@ -20,8 +20,8 @@ use Rattle.pages.specs.Pages.{ownerAt, takenAt, pagesOf, pagesIn}
 use Rattle.objects.specs.Objects.{kindOf, wordAt, walk, headersTo, headersOn, freeWords, freeWordsOn}
 use Rattle.kinds.specs.Laws.Marks as sizes
 use Rattle.outcomes.specs.Store.{Store, outsideOf}
-use Rattle.outcomes.specs.Shape.{RegionsShaped, Shaped}
-use Rattle.outcomes.specs.Laws.Shaped.{array-at, pick-below}
+use Rattle.outcomes.specs.Shape.{RegionsBounded, Bounded}
+use Rattle.outcomes.specs.Laws.Bounded.{below-at, pick-below}
 
 joined-most : (g : ℕ → List ℕ) (b : ℕ) (l : List ℕ) → ((x : ℕ) → length (g x) ≤ b) → length (joined g l) ≤ length l * b
 joined-most g b [] h = omega arith
@@ -59,7 +59,7 @@ pub outside-below : (S : Store) (i : ℕ) → outsideOf S i < 4294967296
 unfolding outsideOf
 outside-below S i = omega arith
 
-module _ (S : Store) (h : Shaped S) where
+module _ (S : Store) (h : Bounded S) where
   pub word-below : (v w : ℕ) → wordAt (S .heap) v w < 4294967296
   unfolding wordAt
   word-below v w = all-at (λ x. x < 4294967296) (S .heap) (v + w) 0 (h .heap) (omega arith)
@@ -80,15 +80,15 @@ pub pages-below : (p : Pages) (t : ℕ) → pagesOf p t ≤ 256
 unfolding pagesOf pagesIn ownerAt
 pages-below p t = omega (arith, count-most (λ j. eqb (ownerAt p j) t) (upTo (min (p .made) 256)), length-upTo (min (p .made) 256))
 
-module _ (g : Regions) (h : RegionsShaped g) where
+module _ (g : Regions) (h : RegionsBounded g) where
   pub name-below : (t : ℕ) → nameOf g t < 4294967296
   unfolding nameOf nameIn
-  name-below t = all-at (λ x. x < 4294967296) (0 ∷ g .names) t 0 (omega arith, h .names .1) (omega arith)
+  name-below t = all-at (λ x. x < 4294967296) (0 ∷ g .names) t 0 (omega arith, h .names) (omega arith)
 
   pub count-below : (i : ℕ) → countAt g i < 4294967296
   unfolding countAt
-  count-below i = array-at 64 4294967296 (g .counts) (h .counts) i (omega arith)
+  count-below i = below-at 4294967296 (g .counts) i (omega arith) (h .counts)
 
   pub oldest-below : (i : ℕ) → oldestAt g i < 4294967296
   unfolding oldestAt
-  oldest-below i = array-at 64 4294967296 (g .oldest) (h .oldest) i (omega arith)
+  oldest-below i = below-at 4294967296 (g .oldest) i (omega arith) (h .oldest)

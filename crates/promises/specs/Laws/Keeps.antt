@@ -1,7 +1,6 @@
--- Every outcome is a value of the language's types.
+-- Every outcome keeps the size of each number, and so, with the lengths, is a value of the language's types.
 -- Assumes nothing.
 use mathlib.Core.Path.{_≡_, refl, sym, subst⁻¹}
-use mathlib.Core.Logic.{_⊎_, inl, inr}
 use mathlib.Core.Bool.{Bool, true, false, not, _||_, true≢false}
 use mathlib.Core.List.{List, [], _∷_}
 use Prim.Native.Nat.{ℕ, zero, suc, _+_, _-_, _*_, _≤_, _<_, min}
@@ -9,7 +8,7 @@ use native.Mathlib.Omega.{arith}
 use lib.Dec.{eqb, ltb, leb}
 use lib.ListN.{length, replicate}
 use borrow.Author.Tests.{eqb-true, ltb-true, ltb-false, leb-false}
-use Rattle.lists.specs.Lists.{bit, pick, anyOf, All}
+use Rattle.lists.specs.Lists.{bit, pick, anyOf}
 use Rattle.lists.specs.Laws.Tests.{neither, both}
 use Rattle.lists.specs.Laws.All.{all-map, all-set, all-replicate}
 use Rattle.lists.specs.Laws.Finds.{any-false}
@@ -23,79 +22,76 @@ use Rattle.regions.specs.Regions.{entryOf, tagOf, isLive, newestAt, oldestAt, l
 use Rattle.pages.specs.declared.Pages.{Pages}
 use Rattle.pages.specs.Pages.{pageCount, isFree, takenAt}
 use Rattle.outcomes.specs.Store.{Store, frames, kinds, regions, pages, slot, size, roomy, roomyIn}
-use Rattle.outcomes.specs.Sound.{Sound}
-use Rattle.outcomes.specs.Shape.{FramesShaped, KindsShaped, RegionsShaped, PagesShaped, Shaped}
-use Rattle.outcomes.specs.Outcome.{Outcome, Accepted, Answered, Audited, Chosen, refusal, checks, dead, namesOut, withFrames, withKinds, withRegions, withPages, withHeap, fillSlot, writeWord, recounted, pointed, popFrame, allocated, outgoing, newlyCounted, deleted}
-use Rattle.promises.specs.Promises.{KeepsShape}
-use Rattle.outcomes.specs.Laws.Decided.{sound-or-not}
+use Rattle.outcomes.specs.Sound.{sound}
+use Rattle.outcomes.specs.Shape.{FramesBounded, KindsBounded, RegionsBounded, PagesBounded, Bounded, Words}
+use Rattle.outcomes.specs.Outcome.{Outcome, Accepted, Answered, Chosen, refusal, checks, dead, namesOut, withFrames, withKinds, withRegions, withPages, withHeap, fillSlot, writeWord, recounted, pointed, popFrame, allocated, outgoing, newlyCounted, deleted}
+use Rattle.promises.specs.Promises.{Sent, KeepsShape}
+use Rattle.promises.specs.Laws.Sizes.{keeps-size}
 use Rattle.promises.specs.Laws.Passed.{passed}
-use Rattle.outcomes.specs.Laws.Shaped.{array-at, all-sets, pick-below, slot-below, put-slot, push-frame, pop-frame, raise-mark, with-kind, with-region, without-region, with-page, recount-shaped, with-taken, free-pages}
+use Rattle.outcomes.specs.Laws.Bounded.{below-at, all-sets, pick-below, slot-below, put-slot, push-frame, pop-frame, raise-mark, with-kind, with-region, without-region, with-page, recount-bounded, with-taken, free-pages}
 use Rattle.outcomes.specs.Laws.Values.{size-most, outside-below, word-below, kind-below, live-below, subregions-below, pages-below, name-below, count-below, oldest-below}
 
-abbrev Small : List ℕ → Type 0
-Small l = All (λ x. x < 4294967296) l
-
-zeros : Small (gives [] .values)
+zeros : Words (gives [] .values)
 zeros = (omega arith, (omega arith, (omega arith, (omega arith, tt))))
 
-one : (x : ℕ) → x < 4294967296 → Small (gives (x ∷ []) .values)
+one : (x : ℕ) → x < 4294967296 → Words (gives (x ∷ []) .values)
 one x h = (h, (omega arith, (omega arith, (omega arith, tt))))
 
-four-small : (x y z w : ℕ) → x < 4294967296 → y < 4294967296 → z < 4294967296 → w < 4294967296 → Small (gives (x ∷ y ∷ z ∷ w ∷ []) .values)
+four-small : (x y z w : ℕ) → x < 4294967296 → y < 4294967296 → z < 4294967296 → w < 4294967296 → Words (gives (x ∷ y ∷ z ∷ w ∷ []) .values)
 four-small x y z w h k l m = (h, (k, (l, (m, tt))))
 
 -- ---- a store with another part
 
-module _ (S : Store) (h : Shaped S) where
-  with-frames-shaped : (f : Frames) → FramesShaped f → Shaped (withFrames S f)
-  with-frames-shaped f k = record { inFrames = k; inKinds = h .inKinds; inRegions = h .inRegions; inPages = h .inPages; heap = h .heap }
+module _ (S : Store) (h : Bounded S) where
+  with-frames : (f : Frames) → FramesBounded f → Bounded (withFrames S f)
+  with-frames f k = record { inFrames = k; inKinds = h .inKinds; inRegions = h .inRegions; inPages = h .inPages; heap = h .heap }
 
-  with-kinds-shaped : (k : Kinds) → KindsShaped k → Shaped (withKinds S k)
-  with-kinds-shaped n k = record { inFrames = h .inFrames; inKinds = k; inRegions = h .inRegions; inPages = h .inPages; heap = h .heap }
+  with-kinds : (k : Kinds) → KindsBounded k → Bounded (withKinds S k)
+  with-kinds n k = record { inFrames = h .inFrames; inKinds = k; inRegions = h .inRegions; inPages = h .inPages; heap = h .heap }
 
-  with-regions-shaped : (g : Regions) → RegionsShaped g → Shaped (withRegions S g)
-  with-regions-shaped g k = record { inFrames = h .inFrames; inKinds = h .inKinds; inRegions = k; inPages = h .inPages; heap = h .heap }
+  with-regions : (g : Regions) → RegionsBounded g → Bounded (withRegions S g)
+  with-regions g k = record { inFrames = h .inFrames; inKinds = h .inKinds; inRegions = k; inPages = h .inPages; heap = h .heap }
 
-  with-pages-shaped : (p : Pages) → PagesShaped p → Shaped (withPages S p)
-  with-pages-shaped p k = record { inFrames = h .inFrames; inKinds = h .inKinds; inRegions = h .inRegions; inPages = k; heap = h .heap }
+  with-pages : (p : Pages) → PagesBounded p → Bounded (withPages S p)
+  with-pages p k = record { inFrames = h .inFrames; inKinds = h .inKinds; inRegions = h .inRegions; inPages = k; heap = h .heap }
 
-  with-heap-shaped : (l : List ℕ) → Small l → Shaped (withHeap S l)
-  with-heap-shaped l k = record { inFrames = h .inFrames; inKinds = h .inKinds; inRegions = h .inRegions; inPages = h .inPages; heap = k }
+  with-heap : (l : List ℕ) → Words l → Bounded (withHeap S l)
+  with-heap l k = record { inFrames = h .inFrames; inKinds = h .inKinds; inRegions = h .inRegions; inPages = h .inPages; heap = k }
 
 -- ---- the steps that several calls share
 
-module _ (S : Store) (h : Shaped S) where
-  filled : (s v : ℕ) → v < 4294967296 → Shaped (fillSlot S s v)
+module _ (S : Store) (h : Bounded S) where
+  filled : (s v : ℕ) → v < 4294967296 → Bounded (fillSlot S s v)
   unfolding fillSlot
-  filled s v b = with-frames-shaped S h _ (put-slot (frames S) (h .inFrames) (topFrame (frames S)) s v b)
+  filled s v b = with-frames S h _ (put-slot (frames S) (h .inFrames) (topFrame (frames S)) s v b)
 
   slot-small : (s : ℕ) → slot S s < 4294967296
   unfolding slot
   slot-small s = slot-below (frames S) (h .inFrames) (topFrame (frames S)) s
 
-  written : (v w x : ℕ) → x < 4294967296 → Shaped (writeWord S v w x)
+  written : (v w x : ℕ) → x < 4294967296 → Bounded (writeWord S v w x)
   unfolding writeWord
-  written v w x b = with-heap-shaped S h _ (all-set (λ x. x < 4294967296) (S .heap) (v + w) x (h .heap) b)
+  written v w x b = with-heap S h _ (all-set (λ x. x < 4294967296) (S .heap) (v + w) x (h .heap) b)
 
-  recounted-shape : (come gone : List ℕ) → Shaped (recounted S come gone)
+  recounted-bounded : (come gone : List ℕ) → Bounded (recounted S come gone)
   unfolding recounted
-  recounted-shape come gone = with-regions-shaped S h _ (recount-shaped (regions S) (h .inRegions) come gone)
+  recounted-bounded come gone = with-regions S h _ (recount-bounded (regions S) (h .inRegions) come gone)
 
-  popped-shape : Shaped (popFrame S)
+  popped-bounded : Bounded (popFrame S)
   unfolding popFrame
-  popped-shape = with-frames-shaped _ (recounted-shape [] _) _ (pop-frame (frames S) (h .inFrames))
+  popped-bounded = with-frames _ (recounted-bounded [] _) _ (pop-frame (frames S) (h .inFrames))
 
-  deleted-shape : (r : ℕ) → Shaped (deleted S r)
+  deleted-bounded : (r : ℕ) → Bounded (deleted S r)
   unfolding deleted
-  deleted-shape r =
+  deleted-bounded r =
       let T = recounted S (newlyCounted S) (outgoing S (tagOf (regions S) r)) in
-      let m = recounted-shape (newlyCounted S) (outgoing S (tagOf (regions S) r)) in
-      let g = with-regions-shaped T m _ (without-region (regions T) (m .inRegions) (entryOf (regions S) r)) in
-      with-frames-shaped _ (with-pages-shaped _ g _ (free-pages (pages S) (h .inPages) (tagOf (regions S) r))) _ (raise-mark (frames S) (h .inFrames))
+      let m = recounted-bounded (newlyCounted S) (outgoing S (tagOf (regions S) r)) in
+      let g = with-regions T m _ (without-region (regions T) (m .inRegions) (entryOf (regions S) r)) in
+      with-frames _ (with-pages _ g _ (free-pages (pages S) (h .inPages) (tagOf (regions S) r))) _ (raise-mark (frames S) (h .inFrames))
 
-pointed-shape : (S : Store) → Shaped S → (v w x : ℕ) → x < 4294967296 → Shaped (pointed S v w x)
+pointed-bounded : (S : Store) → Bounded S → (v w x : ℕ) → x < 4294967296 → Bounded (pointed S v w x)
 unfolding pointed
-pointed-shape S h v w x b = written _ (recounted-shape S h _ _) v w x b
+pointed-bounded S h v w x b = written _ (recounted-bounded S h _ _) v w x b
 
 entry-below : (S : Store) (r : ℕ) → dead S r ≡ false → entryOf (regions S) r < 64
 unfolding dead isLive
@@ -109,7 +105,7 @@ tag-below : (g : Regions) (r : ℕ) → entryOf g r < 64 → tagOf g r < 256
 unfolding tagOf
 tag-below g r h = omega arith
 
-top-below : (S : Store) → Shaped S → topFrame (frames S) < 4294967296
+top-below : (S : Store) → Bounded S → topFrame (frames S) < 4294967296
 unfolding topFrame
 top-below S h = omega (arith, h .inFrames .standing)
 
@@ -121,9 +117,9 @@ kind-most : (S : Store) (k : ℕ) → ltb (kindCount (kinds S)) k ≡ false → 
 unfolding kindCount
 kind-most S k e = omega (arith, ltb-false (min ((kinds S) .declared) 16) k e)
 
-newest-below : (g : Regions) → RegionsShaped g → (i : ℕ) → newestAt g i < 65536
+newest-below : (g : Regions) → RegionsBounded g → (i : ℕ) → newestAt g i < 65536
 unfolding newestAt
-newest-below g h i = array-at 64 65536 (g .newest) (h .newest) i (omega arith)
+newest-below g h i = below-at 65536 (g .newest) i (omega arith) (h .newest)
 
 -- an object on the page chosen: where it starts, and that page, fit their types
 roomy-fits : (S : Store) (i n : ℕ) → roomy S i n ≡ true → takenAt (pages S) (newestAt (regions S) i - 1) + n ≤ 64
@@ -139,7 +135,7 @@ free-below : (S : Store) (j : ℕ) → isFree (pages S) j ≡ true → j < 256
 unfolding isFree pageCount
 free-below S j e = omega (arith, ltb-true j (min ((pages S) .made) 256) (both _ _ e .0))
 
-place-fits : (S : Store) (i n j : ℕ) → Shaped S → n ≤ 17 → Chosen S i n j → (j + 1 < 65536) × (pick (roomy S i n) (takenAt (pages S) j) 0 + n ≤ 64)
+place-fits : (S : Store) (i n j : ℕ) → Bounded S → n ≤ 17 → Chosen S i n j → (j + 1 < 65536) × (pick (roomy S i n) (takenAt (pages S) j) 0 + n ≤ 64)
 place-fits S i n j h b c = go (roomy S i n) refl c
   where
     go : (r : Bool) → roomy S i n ≡ r → pick r (eqb (newestAt (regions S) i) (j + 1)) (isFree (pages S) j) ≡ true → (j + 1 < 65536) × (pick r (takenAt (pages S) j) 0 + n ≤ 64)
@@ -149,31 +145,28 @@ place-fits S i n j h b c = go (roomy S i n) refl c
         (omega (arith, e, newest-below (regions S) (h .inRegions) i), rw d at (roomy-fits S i n q))
     go false q c = (omega (arith, free-below S j c), omega arith)
 
-allocated-shape : (S : Store) (s i k j : ℕ) → Shaped S → i < 64 → k ≤ 16 → Chosen S i (size S k) j → Shaped (allocated S s i k j)
+allocated-bounded : (S : Store) (s i k j : ℕ) → Bounded S → i < 64 → k ≤ 16 → Chosen S i (size S k) j → Bounded (allocated S s i k j)
 unfolding allocated
-allocated-shape S s i k j h b m c =
+allocated-bounded S s i k j h b m c =
     let f = place-fits S i (size S k) j h (size-below S k) c in
     let start = pick (roomy S i (size S k)) (takenAt (pages S) j) 0 in
     let o = oldestAt (regions S) i in
     let v : 64 * j + start + 1 < 4294967296 = omega (arith, f .0, f .1) in
-    let x = with-heap-shaped S h _ (all-sets (λ x. x < 4294967296) (k ∷ replicate (sizeOf (kinds S) k) 0) (S .heap) (64 * j + start) (h .heap) (omega arith, all-replicate (λ x. x < 4294967296) (sizeOf (kinds S) k) 0 (omega arith))) in
-    let y = with-pages-shaped _ x _ (with-taken (pages S) (h .inPages) j (i + 1) (start + size S k) (omega arith) (omega (arith, f .1))) in
-    let z = with-regions-shaped _ y _ (with-page (regions S) (h .inRegions) i (j + 1) (pick (eqb o 0) (64 * j + start + 1) o) (f .0) (pick-below (eqb o 0) (64 * j + start + 1) o 4294967296 v (oldest-below (regions S) (h .inRegions) i))) in
+    let x = with-heap S h _ (all-sets (λ x. x < 4294967296) (k ∷ replicate (sizeOf (kinds S) k) 0) (S .heap) (64 * j + start) (h .heap) (omega arith, all-replicate (λ x. x < 4294967296) (sizeOf (kinds S) k) 0 (omega arith))) in
+    let y = with-pages _ x _ (with-taken (pages S) (h .inPages) j (i + 1) (start + size S k) (omega arith) (omega (arith, f .1))) in
+    let z = with-regions _ y _ (with-page (regions S) (h .inRegions) i (j + 1) (pick (eqb o 0) (64 * j + start + 1) o) (f .0) (pick-below (eqb o 0) (64 * j + start + 1) o 4294967296 v (oldest-below (regions S) (h .inRegions) i))) in
     filled _ z s (64 * j + start + 1) v
 
 -- ---- every call
 
-both-of : (a b : Answer) (T U : Store) → (a ≡ b) × (T ≡ U) → Shaped U → Small (b .values) → Shaped T × Small (a .values)
-both-of a b T U q h k = (subst⁻¹ Shaped (q .1) h, subst⁻¹ (λ x. Small (x .values)) (q .0) k)
+both-of : (a b : Answer) (T U : Store) → (a ≡ b) × (T ≡ U) → Bounded U → Words (b .values) → Bounded T × Words (a .values)
+both-of a b T U q h k = (subst⁻¹ Bounded (q .1) h, subst⁻¹ (λ x. Words (x .values)) (q .0) k)
 
-audit-small : (S : Store) (a : Answer) → Audited S a → Small (a .values)
-audit-small S a h = go (sound-or-not S)
-  where
-    go : (Sound S) ⊎ (Sound S → ⊥) → Small (a .values)
-    go (inl s) = subst⁻¹ (λ x. Small (x .values)) (h .0 s) (one 1 (omega arith))
-    go (inr n) = subst⁻¹ (λ x. Small (x .values)) (h .1 n) (one 0 (omega arith))
+bit-below : (b : Bool) → bit b < 4294967296
+bit-below true = omega arith
+bit-below false = omega arith
 
-accepted-keeps : (c : Call) (S : Store) (a : Answer) (T : Store) → ((s w x : ℕ) → c ≡ put s w x → x < 4294967296) → Shaped S → refusal S c ≡ 0 → Accepted c S a T → Shaped T × Small (a .values)
+accepted-keeps : (c : Call) (S : Store) (a : Answer) (T : Store) → Sent c → Bounded S → refusal S c ≡ 0 → Accepted c S a T → Bounded T × Words (a .values)
 unfolding Accepted checks namesOut wrongMarks
 accepted-keeps (declare ms) S a T x h e q =
     let t = passed S (declare ms) e in
@@ -181,59 +174,61 @@ accepted-keeps (declare ms) S a T x h e q =
     let m = neither (eqb (length ms) 0 || ltb 16 (length ms)) (anyOf (ltb 4) ms) (t .1 .0) in
     let n = neither (eqb (length ms) 0) (ltb 16 (length ms)) (m .0) in
     let k = with-kind (kinds S) ms (h .inKinds) d (ltb-false 16 (length ms) (n .1)) (all-map (λ m f. ltb-false 4 m f) ms (any-false (ltb 4) ms (m .1))) in
-    both-of a _ T _ q (with-kinds-shaped S h _ k) (one ((kinds S) .declared + 1) (omega arith))
+    both-of a _ T _ q (with-kinds S h _ k) (one ((kinds S) .declared + 1) (omega arith))
 accepted-keeps newRegion S a T x h e q =
     let t = passed S newRegion e in
     let g = leb-false 1000000 ((regions S) .given) (t .1 .1 .0) in
     let r = with-region (regions S) (h .inRegions) _ 0 1 g (omega arith) (omega arith) in
-    both-of a _ T _ q (with-regions-shaped S h _ r) (one ((regions S) .given + 1) (omega arith))
+    both-of a _ T _ q (with-regions S h _ r) (one ((regions S) .given + 1) (omega arith))
 accepted-keeps (subregion p) S a T x h e q =
     let t = passed S (subregion p) e in
     let i = entry-below S p (t .1 .0) in
     let l = leb-false 16 (levelAt (regions S) (entryOf (regions S) p)) (t .1 .1 .0) in
     let g = leb-false 1000000 ((regions S) .given) (t .1 .1 .1 .1 .0) in
     let r = with-region (regions S) (h .inRegions) _ (tagOf (regions S) p) (levelAt (regions S) (entryOf (regions S) p) + 1) g (tag-below (regions S) p i) (omega arith) in
-    both-of a _ T _ q (with-regions-shaped S h _ r) (one ((regions S) .given + 1) (omega arith))
+    both-of a _ T _ q (with-regions S h _ r) (one ((regions S) .given + 1) (omega arith))
 accepted-keeps (push n) S a T x h e q =
     let t = passed S (push n) e in
     let b = ltb-false 8 n (neither (eqb n 0) (ltb 8 n) (t .1 .0) .1) in
     let d = leb-false 32 ((frames S) .standing) (t .1 .1 .0) in
     let f = push-frame (frames S) (h .inFrames) n d b in
-    both-of a _ T _ q (with-frames-shaped S h _ f) (one ((frames S) .standing + 1) (omega arith))
-accepted-keeps dropFrame S a T x h e q = both-of a _ T _ q (popped-shape S h) (one (topFrame (frames S)) (top-below S h))
-accepted-keeps (handBack s b) S a T x h e q = both-of a _ T _ q (filled (popFrame S) (popped-shape S h) b (slot S s) (slot-small S h s)) (one (topFrame (frames S)) (top-below S h))
+    both-of a _ T _ q (with-frames S h _ f) (one ((frames S) .standing + 1) (omega arith))
+accepted-keeps dropFrame S a T x h e q = both-of a _ T _ q (popped-bounded S h) (one (topFrame (frames S)) (top-below S h))
+accepted-keeps (handBack s b) S a T x h e q = both-of a _ T _ q (filled (popFrame S) (popped-bounded S h) b (slot S s) (slot-small S h s)) (one (topFrame (frames S)) (top-below S h))
 accepted-keeps (allocate s r k) S a T x h e q =
     let t = passed S (allocate s r k) e in
     let i = entry-below S r (t .1 .1 .1 .0) in
     let m = kind-most S k (neither (eqb k 0) (ltb (kindCount (kinds S)) k) (t .1 .1 .1 .1 .0) .1) in
-    both-of a _ T _ (q .0, q .1 .2) (allocated-shape S s (entryOf (regions S) r) k (q .1 .0) h i m (q .1 .1)) zeros
+    both-of a _ T _ (q .0, q .1 .2) (allocated-bounded S s (entryOf (regions S) r) k (q .1 .0) h i m (q .1 .1)) zeros
 accepted-keeps (first s r) S a T x h e q = both-of a _ T _ q (filled S h s _ (oldest-below (regions S) (h .inRegions) _)) zeros
 accepted-keeps (copy s t) S a T x h e q = both-of a _ T _ q (filled S h t _ (slot-small S h s)) zeros
 accepted-keeps (fetch b s) S a T x h e q = both-of a _ T _ q (filled S h s _ (slot-below (frames S) (h .inFrames) _ b)) zeros
 accepted-keeps (clear s) S a T x h e q = both-of a _ T _ q (filled S h s 0 (omega arith)) zeros
 accepted-keeps (load s w t) S a T x h e q = both-of a _ T _ q (filled S h t _ (word-below S h (slot S s) w)) zeros
-accepted-keeps (setPointer s w v) S a T x h e q = both-of a _ T _ q (pointed-shape S h (slot S s) w (slot S v) (slot-small S h v)) zeros
+accepted-keeps (setPointer s w v) S a T x h e q = both-of a _ T _ q (pointed-bounded S h (slot S s) w (slot S v) (slot-small S h v)) zeros
 accepted-keeps (put s w y) S a T x h e q = both-of a _ T _ q (written S h (slot S s) w y (x s w y refl)) zeros
 accepted-keeps (get s w) S a T x h e q = both-of a _ T _ q h (one _ (word-below S h (slot S s) w))
 accepted-keeps (view s) S a T x h e q = both-of a _ T _ q h zeros
 accepted-keeps (same s t) S a T x h e q = both-of a _ T _ q h (one _ (bit-below (eqb (slot S s) (slot S t))))
-  where
-    bit-below : (b : Bool) → bit b < 4294967296
-    bit-below true = omega arith
-    bit-below false = omega arith
 accepted-keeps (about s) S a T x h e q = both-of a _ T _ q h (four-small _ _ 0 0 (name-below (regions S) (h .inRegions) _) (kind-below S h (slot S s)) (omega arith) (omega arith))
 accepted-keeps (report r) S a T x h e q =
     let t = tagOf (regions S) r in
     both-of a _ T _ q h (four-small _ _ _ _ (count-below (regions S) (h .inRegions) _) (outside-below S _) (omega (arith, pages-below (pages S) t)) (omega (arith, subregions-below (regions S) t)))
 accepted-keeps totals S a T x h e q =
     both-of a _ T _ q h (four-small _ _ _ _ (omega (arith, pages-below (pages S) 0)) (omega (arith, live-below (regions S))) (h .inFrames .standing) (h .inFrames .counted))
-accepted-keeps audit S a T x h e q = (subst⁻¹ Shaped (q .1) h, audit-small S a (q .0))
-accepted-keeps (delete r) S a T x h e q = both-of a _ T _ q (deleted-shape S h r) (one _ (omega (arith, pages-below (pages S) (tagOf (regions S) r))))
+accepted-keeps audit S a T x h e q = both-of a _ T _ q h (one _ (bit-below (sound S)))
+accepted-keeps (delete r) S a T x h e q = both-of a _ T _ q (deleted-bounded S h r) (one _ (omega (arith, pages-below (pages S) (tagOf (regions S) r))))
 
-pub keeps-shape : KeepsShape
-unfolding KeepsShape Outcome
-keeps-shape c S a T x h o = go (refusal S c) refl o
+keeps-bounds : (c : Call) (S : Store) (a : Answer) (T : Store) → Sent c → Bounded S → Outcome c S a T → Bounded T × Words (a .values)
+unfolding Outcome
+keeps-bounds c S a T x h o = go (refusal S c) refl o
   where
-    go : (n : ℕ) → refusal S c ≡ n → Answered n c S a T → Shaped T × Small (a .values)
+    go : (n : ℕ) → refusal S c ≡ n → Answered n c S a T → Bounded T × Words (a .values)
     go zero e k = accepted-keeps c S a T x h e k
     go (suc n) e k = both-of a _ T _ k h zeros
+
+pub keeps-shape : KeepsShape
+unfolding KeepsShape
+keeps-shape c S a T x h o =
+    let k = keeps-bounds c S a T x (h .bounded) o in
+    (record { sized = keeps-size c S a T (h .sized) o; bounded = k .0 }, k .1)

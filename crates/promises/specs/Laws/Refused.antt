@@ -1,7 +1,7 @@
 -- Every call has an outcome; a refused one answers its number and leaves every word; the audit is exact.
 -- Assumes nothing.
 use mathlib.Core.Path.{_≡_, refl, sym, ap, _∙_}
-use mathlib.Core.Logic.{_⊎_, inl, inr, _↔_, _≢_}
+use mathlib.Core.Logic.{_≢_}
 use mathlib.Core.Bool.{Bool, true, false, not, _&&_, _||_, true≢false}
 use mathlib.Core.List.{[], _∷_}
 use Prim.Native.Nat.{ℕ, zero, suc, _+_, _-_}
@@ -9,7 +9,7 @@ use native.Mathlib.Omega.{arith}
 use lib.Dec.{eqb}
 use lib.ListN.{getD}
 use borrow.Author.Tests.{eq-eqb, eqb-false, lt-ltb}
-use Rattle.lists.specs.Lists.{pick, anyOf, countOf, findOr, upTo}
+use Rattle.lists.specs.Lists.{bit, pick, anyOf, countOf, findOr, upTo}
 use Rattle.lists.specs.Laws.Finds.{any-count}
 use Rattle.lists.specs.Laws.UpTo.{find-found}
 use Rattle.model.specs.Model.{Answer, Call, declare, newRegion, subregion, push, dropFrame, handBack, allocate, first, copy, fetch, clear, load, setPointer, put, get, view, same, about, report, totals, audit, delete, gives, refusedBy}
@@ -17,41 +17,24 @@ use Rattle.regions.specs.Regions.{newestAt, entryOf}
 use Rattle.pages.specs.declared.Pages.{Pages}
 use Rattle.pages.specs.Pages.{pageCount, ownerAt, isFree, pagesOf, pagesIn, takenAt}
 use Rattle.outcomes.specs.Store.{Store, regions, pages, roomy, size, roomyIn}
-use Rattle.outcomes.specs.Sound.{Sound}
-use Rattle.outcomes.specs.Outcome.{Outcome, Accepted, Answered, Audited, Chosen, checks, refusal}
+use Rattle.outcomes.specs.Sound.{sound}
+use Rattle.outcomes.specs.Outcome.{Outcome, Accepted, Answered, Chosen, checks, refusal}
 use Rattle.promises.specs.Promises.{Total, Refusals, AuditExact}
-use Rattle.outcomes.specs.Laws.Decided.{sound-or-not}
+use Rattle.outcomes.specs.Laws.Decided.{sound-is, is-sound}
 use Rattle.promises.specs.Laws.Passed.{passed}
 
 -- ---- the audit
 
-differ : gives (1 ∷ []) ≢ gives (0 ∷ [])
-differ e = let d : _≡_ {A = ℕ} 1 0 = ap (λ a. getD (a .values) 0 0) e in absurd (omega (arith, d))
+differ : gives (0 ∷ []) ≢ gives (1 ∷ [])
+differ e = let d : _≡_ {A = ℕ} 0 1 = ap (λ a. getD (a .values) 0 0) e in absurd (omega (arith, d))
 
-exact : (S : Store) (a : Answer) → Audited S a → ((a ≡ gives (1 ∷ [])) ↔ Sound S) × ((a ≡ gives (1 ∷ [])) ⊎ (a ≡ gives (0 ∷ [])))
-exact S a h = go (sound-or-not S)
-  where
-    go : (Sound S) ⊎ (Sound S → ⊥) → ((a ≡ gives (1 ∷ [])) ↔ Sound S) × ((a ≡ gives (1 ∷ [])) ⊎ (a ≡ gives (0 ∷ [])))
-    go (inl s) = (((λ e. s), (λ t. h .0 t)), inl (h .0 s))
-    go (inr n) = (((λ e. absurd (differ (sym e ∙ h .1 n))), (λ s. absurd (n s))), inr (h .1 n))
+one-true : (b : Bool) → gives (bit b ∷ []) ≡ gives (1 ∷ []) → b ≡ true
+one-true true e = refl
+one-true false e = absurd (differ e)
 
 pub audit-exact : AuditExact
 unfolding AuditExact Outcome Accepted refusal checks
-audit-exact S a T h = let x = exact S a (h .0) in (x .0, x .1, h .1)
-
-audit-zero : (S : Store) (a : Answer) → Audited S a → a .refusal ≡ 0
-audit-zero S a h = go ((exact S a h) .1)
-  where
-    go : (a ≡ gives (1 ∷ [])) ⊎ (a ≡ gives (0 ∷ [])) → a .refusal ≡ 0
-    go (inl e) = ap (λ x. x .refusal) e
-    go (inr e) = ap (λ x. x .refusal) e
-
-audited : (S : Store) → (a : Answer) × Audited S a
-audited S = go (sound-or-not S)
-  where
-    go : (Sound S) ⊎ (Sound S → ⊥) → (a : Answer) × Audited S a
-    go (inl s) = (gives (1 ∷ []), ((λ h. refl), (λ n. absurd (n s))))
-    go (inr n) = (gives (0 ∷ []), ((λ h. absurd (n h)), (λ h. refl)))
+audit-exact S a T h = (h .0, ((λ e. sound-is S (one-true (sound S) (sym (h .0) ∙ e))), (λ s. h .0 ∙ ap (λ b. gives (bit b ∷ [])) (is-sound S s))), h .1)
 
 -- ---- refusals
 
@@ -78,7 +61,7 @@ zero-of (same s t) S a T q = ap (λ x. x .refusal) (q .0)
 zero-of (about s) S a T q = ap (λ x. x .refusal) (q .0)
 zero-of (report r) S a T q = ap (λ x. x .refusal) (q .0)
 zero-of totals S a T q = ap (λ x. x .refusal) (q .0)
-zero-of audit S a T q = audit-zero S a (q .0)
+zero-of audit S a T q = ap (λ x. x .refusal) (q .0)
 zero-of (delete r) S a T q = ap (λ x. x .refusal) (q .0)
 
 pub refusals : Refusals
@@ -141,7 +124,7 @@ accepts (same s t) S e = (_, _, (refl, refl))
 accepts (about s) S e = (_, _, (refl, refl))
 accepts (report r) S e = (_, _, (refl, refl))
 accepts totals S e = (_, _, (refl, refl))
-accepts audit S e = let a = audited S in (a .0, S, (a .1, refl))
+accepts audit S e = (_, _, (refl, refl))
 accepts (delete r) S e = (_, _, (refl, refl))
 
 pub total : Total

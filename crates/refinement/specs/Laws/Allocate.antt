@@ -31,7 +31,7 @@ use Rattle.pages.specs.declared.Pages.{Pages}
 use Rattle.pages.specs.Pages.{pageCount, ownerAt, takenAt, isFree, pagesOf, withTaken}
 use Rattle.pages.specs.Laws.Taken.{owner-here, owner-else, taken-here, taken-else, pages-moved}
 use Rattle.outcomes.specs.Store.{Store, kinds, regions, pages, roomy, size as storeSize}
-use Rattle.outcomes.specs.Shape.{PagesShaped, RegionsShaped, Shaped}
+use Rattle.outcomes.specs.Shape.{PagesSized, RegionsSized, Sized}
 use Rattle.outcomes.specs.Outcome.{withRegions, withPages, withHeap, Chosen, allocated, fillSlot as storeFill}
 use Rattle.refinement.specs.Represents.{spot, tagFor, EntryAgrees, RegionsAgree, NewestAgrees, RoomAgrees, PagesAgree, Represents}
 use Rattle.refinement.specs.Laws.Tags.{zero-dead, tag-some, tag-injective, entry-in}
@@ -70,7 +70,7 @@ Takes L g p r k j t =
     let x = region (L .regions) r in
     ((fits x (size L k) ≡ true) × (ownerAt p j ≡ tagOf g r) × (getD (p .taken) j 0 ≡ t) × (t + x .room ≡ 64)) ⊎ ((fits x (size L k) ≡ false) × (ownerAt p j ≡ 0) × (t ≡ 0))
 
-module _ (L : Model) (sp : List ℕ) (g : Regions) (p : Pages) (words : ℕ) (ra : RegionsAgree L sp g) (pa : PagesAgree L g p words) (rs : RegionsShaped g) (ps : PagesShaped p) (r k j t y : ℕ)
+module _ (L : Model) (sp : List ℕ) (g : Regions) (p : Pages) (words : ℕ) (ra : RegionsAgree L sp g) (pa : PagesAgree L g p words) (rs : RegionsSized g) (ps : PagesSized p) (r k j t y : ℕ)
     (lr : livesIn L r ≡ true) (room : t + size L k ≤ 64) (jm : j < p .made) (page : Takes L g p r k j t) where
   abbrev p₂ : Pages
   p₂ = withTaken p j (tagOf g r) (t + size L k)
@@ -84,7 +84,7 @@ module _ (L : Model) (sp : List ℕ) (g : Regions) (p : Pages) (words : ℕ) (ra
   -- the pages of a region, or the free ones: those that were, without page j and with it
   count-moved : (u : ℕ) → pagesOf p₂ u + bit (eqb (ownerAt p j) u) ≡ pagesOf p u + bit (eqb (tagOf g r) u)
   unfolding pageCount
-  count-moved = pages-moved p j (tagOf g r) (t + size L k) (omega (arith, j-in)) (omega (arith, j-in, ps .owners .0))
+  count-moved = pages-moved p j (tagOf g r) (t + size L k) (omega (arith, j-in)) (omega (arith, j-in, ps .owners))
 
   free-left : pagesOf p₂ 0 ≡ pick (fits (region (L .regions) r) (size L k)) (L .free) (L .free - 1)
   free-left = go page (rw (ne-eqb (tagOf g r) 0 (tag-some g r)) at (count-moved 0))
@@ -117,7 +117,7 @@ module _ (L : Model) (sp : List ℕ) (g : Regions) (p : Pages) (words : ℕ) (ra
     where
       go : (i ≡ j) ⊎ (i ≢ j) → (ownerAt p i ≡ 0) ⊎ ((q : ℕ) × (livesIn L q ≡ true) × (ownerAt p i ≡ tagOf g q))
           → (ownerAt p₂ i ≡ 0) ⊎ ((q : ℕ) × (livesIn (addObject L r k) q ≡ true) × (ownerAt p₂ i ≡ tagOf g₂ q))
-      go (inl e) o = inr (r, made-lives L r k r ∙ lr, ap (ownerAt p₂) e ∙ owner-here p j (tagOf g r) (t + size L k) (omega (arith, j-in, ps .owners .0)) ∙ sym (page-tag g (entryOf g r) (j + 1) y r))
+      go (inl e) o = inr (r, made-lives L r k r ∙ lr, ap (ownerAt p₂) e ∙ owner-here p j (tagOf g r) (t + size L k) (omega (arith, j-in, ps .owners)) ∙ sym (page-tag g (entryOf g r) (j + 1) y r))
       go (inr d) (inl o) = inl (owner-else p j (tagOf g r) (t + size L k) i d ∙ o)
       go (inr d) (inr (q, l, o)) = inr (q, made-lives L r k q ∙ l, owner-else p j (tagOf g r) (t + size L k) i d ∙ o ∙ sym (page-tag g (entryOf g r) (j + 1) y q))
 
@@ -125,8 +125,8 @@ module _ (L : Model) (sp : List ℕ) (g : Regions) (p : Pages) (words : ℕ) (ra
   unfolding withTaken
   room-here = record {
     made = jm;
-    own = owner-here p j (tagOf g r) (t + size L k) (omega (arith, j-in, ps .owners .0));
-    left = rw (taken-here p j (tagOf g r) (t + size L k) (omega (arith, j-in, ps .taken .0))) (go page);
+    own = owner-here p j (tagOf g r) (t + size L k) (omega (arith, j-in, ps .owners));
+    left = rw (taken-here p j (tagOf g r) (t + size L k) (omega (arith, j-in, ps .taken))) (go page);
   }
     where
       go : Takes L g p r k j t → t + size L k + pick (fits (region (L .regions) r) (size L k)) ((region (L .regions) r) .room - size L k) (64 - size L k) ≡ 64
@@ -155,7 +155,7 @@ module _ (L : Model) (sp : List ℕ) (g : Regions) (p : Pages) (words : ℕ) (ra
     held = by-region L r k (λ q x. pagesOf p₂ (tagOf g₂ q) ≡ x .pages) lr (rw (page-tag g (entryOf g r) (j + 1) y r) held-here) (λ q l d. rw (page-tag g (entryOf g r) (j + 1) y q) (held-else q l d));
     owned = owned₂;
     room = by-region L r k (λ q x. RoomAgrees (x .room) p₂ (tagOf g₂ q) (newestAt g₂ (entryOf g₂ q))) lr
-        (rw (page-tag g (entryOf g r) (j + 1) y r, page-entry g (entryOf g r) (j + 1) y r, newest-here g (entryOf g r) (j + 1) y (omega (arith, entry-in ra r lr, rs .newest .0)), add-one j) room-here)
+        (rw (page-tag g (entryOf g r) (j + 1) y r, page-entry g (entryOf g r) (j + 1) y r, newest-here g (entryOf g r) (j + 1) y (omega (arith, entry-in ra r lr, rs .newest)), add-one j) room-here)
         (λ q l d. rw (page-tag g (entryOf g r) (j + 1) y q, page-entry g (entryOf g r) (j + 1) y q, newest-else g (entryOf g r) (j + 1) y (entryOf g q) (entry-other L g ra r q lr l d))
         (room-else q l d ((region (L .regions) q) .room) (newestAt g (entryOf g q)) (pa .room q l)));
   }
@@ -166,7 +166,7 @@ for-page : (g : Regions) (i x y q : ℕ) → tagFor (withPage g i x y) q ≡ tag
 for-page g i x y zero = refl
 for-page g i x y (suc q) = page-tag g i x y (suc q)
 
-module _ (L : Model) (sp : List ℕ) (g : Regions) (v : Valid L) (ra : RegionsAgree L sp g) (rs : RegionsShaped g) (r k j a : ℕ) (lr : livesIn L r ≡ true)
+module _ (L : Model) (sp : List ℕ) (g : Regions) (v : Valid L) (ra : RegionsAgree L sp g) (rs : RegionsSized g) (r k j a : ℕ) (lr : livesIn L r ≡ true)
     (len : length sp ≡ length (L .objects)) (nulls : (q : ℕ) → Known L q → eqb (spot sp q) 0 ≡ eqb q 0) where
   abbrev i : ℕ
   i = entryOf g r
@@ -192,7 +192,7 @@ module _ (L : Model) (sp : List ℕ) (g : Regions) (v : Valid L) (ra : RegionsAg
         (let e = ra .entry r lr in rw (page-entry g i (j + 1) o r) (record {
           parent = e .parent ∙ sym (for-page g i (j + 1) o ((region (L .regions) r) .parent));
           level = e .level;
-          oldest = oldest-here g i (j + 1) o (omega (arith, entry-in ra r lr, rs .oldest .0)) ∙ oldest-first;
+          oldest = oldest-here g i (j + 1) o (omega (arith, entry-in ra r lr, rs .oldest)) ∙ oldest-first;
         }))
         (λ q l d. let e = ra .entry q l in rw (page-entry g i (j + 1) o q) (record {
           parent = e .parent ∙ sym (for-page g i (j + 1) o ((region (L .regions) q) .parent));
@@ -210,7 +210,7 @@ withObject S i k j t z n =
     let T = withHeap S (sets (S .heap) (64 * j + t) (k ∷ replicate n 0)) in
     withRegions (withPages T (withTaken (pages S) j (i + 1) (t + z))) (withPage (regions S) i (j + 1) (pick (eqb o 0) a o))
 
-module _ (L : Model) (sp : List ℕ) (ids : ℕ → List ℕ) (S : Store) (v : Valid L) (sh : Shaped S) (rep : Represents L sp ids S) (r k j : ℕ) (lr : livesIn L r ≡ true) where
+module _ (L : Model) (sp : List ℕ) (ids : ℕ → List ℕ) (S : Store) (v : Valid L) (sh : Sized S) (rep : Represents L sp ids S) (r k j : ℕ) (lr : livesIn L r ≡ true) where
   object-represents : (t : ℕ) (base : List ℕ) → t + size L k ≤ 64 → j < (pages S) .made → Takes L (regions S) (pages S) r k j t → Onto (regions S) (pages S) ids r j t base
       → Represents (addObject L r k) (sp ++ ((64 * j + t + 1) ∷ [])) (joins ids j (base ++ (newId L ∷ []))) (withObject S (entryOf (regions S) r) k j t (size L k) (length (marks (L .kinds) k)))
   unfolding addObject tagOf
@@ -227,7 +227,7 @@ module _ (L : Model) (sp : List ℕ) (ids : ℕ → List ℕ) (S : Store) (v : V
         onKinds = rep .onKinds;
         onRegions = regions-made L sp g v (rep .onRegions) (sh .inRegions) r k j a lr (oa .known) (spot-zero oa);
         onPages = rw length-sets (pages-made L sp g p (length (S .heap)) (rep .onRegions) (rep .onPages) (sh .inRegions) (sh .inPages) r k j t o lr room jm takes);
-        onObjects = objects-made L sp ids g p (S .heap) v (rep .onRegions) oa r k j t base lr room jm (omega (arith, sh .inPages .owners .0, rep .onPages .most)) (omega (arith, sh .inPages .taken .0, rep .onPages .most))
+        onObjects = objects-made L sp ids g p (S .heap) v (rep .onRegions) oa r k j t base lr room jm (omega (arith, sh .inPages .owners, rep .onPages .most)) (omega (arith, sh .inPages .taken, rep .onPages .most))
             (omega (arith, rep .onPages .whole)) onto (withPage g i (j + 1) o) (page-tag g i (j + 1) o);
         counts = λ q l. let m = sym (made-lives L r k q) ∙ l in rw (page-entry g i (j + 1) o q, count-kept g i (j + 1) o (entryOf g q)) (rep .counts q m ∙ sym (object-stored L q v (live-positive (L .regions) q (v .names .named) m) r k));
       }
@@ -284,5 +284,5 @@ module _ (L : Model) (sp : List ℕ) (ids : ℕ → List ℕ) (S : Store) (v : V
       let n = subst⁻¹ (λ z. Represents (addObject L r k) (sp ++ (a ∷ [])) joined (W z (sizeOf (kinds S) k))) (size-same v rep k)
       (subst⁻¹ (λ n. Represents (addObject L r k) (sp ++ (a ∷ [])) joined (W (size L k) n)) (rep .onKinds .sizes k) m) in
       subst (λ x. Represents (accepted L (allocate s r k)) (sp ++ (a ∷ [])) joined (storeFill (W (storeSize S k) (sizeOf (kinds S) k)) s x)) (spot-last L sp (rep .onObjects .known) a)
-      (fill-represents (addObject L r k) (sp ++ (a ∷ [])) joined (W (storeSize S k) (sizeOf (kinds S) k)) (made-valid L v s r k e) n (sh .inFrames .slots .0) s (newId L)
+      (fill-represents (addObject L r k) (sp ++ (a ∷ [])) joined (W (storeSize S k) (sizeOf (kinds S) k)) (made-valid L v s r k e) n (sh .inFrames .slots) s (newId L)
       (leb-false (length (top L)) s (passed L (allocate s r k) e .1 .0)))

@@ -36,7 +36,7 @@ use Rattle.pages.specs.Pages.{pageCount, ownerAt, ownerOf, freed, ownersTo}
 use Rattle.pages.specs.Laws.Gone.{gone-owner, gone-other, gone-pages, gone-held, gone-pointer, gone-free}
 use Rattle.objects.specs.Objects.{freeWordsOn, freeWordsOf, outOf}
 use Rattle.outcomes.specs.Store.{Store, frames, kinds, regions, pages, slotTargets}
-use Rattle.outcomes.specs.Shape.{Shaped}
+use Rattle.outcomes.specs.Shape.{Sized}
 use Rattle.outcomes.specs.Outcome.{Accepted, withFrames, withRegions, withPages, recounted, outgoing, newlyIn, newlyCounted, deleted}
 use Rattle.refinement.specs.Represents.{spot, tagFor, Alive, wordsIn, FramesAgree, RegionsAgree, PagesAgree, RoomAgrees, Tiles, ObjectsAgree, Represents}
 use Rattle.refinement.specs.Laws.Tags.{tag-some, live-named, entry-in, entry-name, tag-same, tag-injective}
@@ -260,7 +260,7 @@ module _ {L : Model} {sp : List ℕ} {ids : ℕ → List ℕ} (S : Store) (v : V
 abbrev without : Store → Regions → ℕ → ℕ → Store
 without S g i t = withFrames (withPages (withRegions S (withoutRegion g i)) (freed (pages S) t)) (raised (frames S))
 
-pub delete-step : (L : Model) (sp : List ℕ) (ids : ℕ → List ℕ) (S : Store) → Valid L → Represents L sp ids S → (a : Answer) (T : Store) (r : ℕ) → Shaped S → ((q : ℕ) → outside L q ≤ 16640)
+pub delete-step : (L : Model) (sp : List ℕ) (ids : ℕ → List ℕ) (S : Store) → Valid L → Represents L sp ids S → (a : Answer) (T : Store) (r : ℕ) → Sized S → ((q : ℕ) → outside L q ≤ 16640)
     → refusal L (delete r) ≡ 0 → Accepted (delete r) S a T → (a ≡ reply L (delete r)) × Represents (accepted L (delete r)) sp ids T
 unfolding checks Accepted reply accepted removeRegion deleted recounted
 delete-step L sp ids S v h a T r shaped small e (x, y) =
@@ -270,7 +270,7 @@ delete-step L sp ids S v h a T r shaped small e (x, y) =
     let n = t .1 .0 in
     let now = recount (regions S) (newlyCounted S) (outgoing S (tagOf (regions S) r)) in
     let b = recount-beside (regions S) (newlyCounted S) (outgoing S (tagOf (regions S) r)) in
-    let long : length (now .names) ≡ 64 = ap length (b .names) ∙ shaped .inRegions .names .0 in
+    let long : length (now .names) ≡ 64 = ap length (b .names) ∙ shaped .inRegions .names in
     let g = regions-kept L (L .kinds) (L .frames) (L .counted) (L .objects) b sp (h .onRegions) in
     let p = pages-kept L (L .kinds) (L .frames) (L .counted) (L .objects) b (pages S) (length (S .heap)) (h .onPages) in
     let o = objects-kept L (L .frames) (L .counted) b (h .onObjects) in

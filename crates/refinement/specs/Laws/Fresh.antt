@@ -11,7 +11,6 @@ use lib.ListN.{length, getD, replicate, length-replicate}
 use borrow.Author.Tests.{eqb-true, leb-true, lt-ltb, lt-leb}
 use Rattle.lists.specs.Lists.{bit, pick, upTo}
 use Rattle.lists.specs.Laws.Tests.{both, pick-same}
-use Rattle.lists.specs.Laws.All.{all-replicate}
 use Rattle.lists.specs.Laws.Sums.{sum-ones, sum-pick}
 use Rattle.lists.specs.Laws.UpTo.{sum-below, length-upTo}
 use Rattle.model.specs.Model.{Answer, region, marks, livesIn, homeIn, gives, stored, inWords, inFrames}
@@ -25,8 +24,8 @@ use Rattle.pages.specs.declared.Pages.{Pages}
 use Rattle.pages.specs.Pages.{pageCount, ownerAt, pagesOf, pagesIn}
 use Rattle.outcomes.specs.Store.{Store}
 use Rattle.outcomes.specs.Outcome.{store, blank, MakeOutcome}
-use Rattle.outcomes.specs.Shape.{Shaped}
-use Rattle.outcomes.specs.Laws.Shaped.{blank-shaped}
+use Rattle.outcomes.specs.Shape.{Sized}
+use Rattle.outcomes.specs.Laws.Sized.{blank-sized}
 use Rattle.refinement.specs.Represents.{Represents, EntryAgrees, RoomAgrees}
 
 zeros : (n i : ℕ) → _≡_ {A = ℕ} (getD (replicate n 0) i 0) 0
@@ -127,7 +126,5 @@ module _ (heap : List ℕ) (a : Answer) (T : Store) (ok : makes (length heap) �
   pub make-represents : Represents (fresh (length heap / 64)) [] (λ j. []) T
   make-represents = let m = make-pages (length heap) ok in rw (left .1) (fresh-represents (length heap / 64) (m .0) (m .1))
 
-  pub make-shaped : Shaped T
-  make-shaped =
-      let n = length heap / 64 in
-      rw (left .1) (blank-shaped n (make-pages (length heap) ok .1) (replicate (64 * n) 0) (all-replicate (λ x. x < 4294967296) (64 * n) 0 (omega arith)))
+  pub make-sized : Sized T
+  make-sized = rw (left .1) (blank-sized (length heap / 64) 1 (replicate (64 * (length heap / 64)) 0))

@@ -34,9 +34,9 @@ use Rattle.regions.specs.Laws.Recount.{beside-same}
 use Rattle.pages.specs.declared.Pages.{Pages}
 use Rattle.pages.specs.Pages.{pageCount, ownerAt, pagesOf, pagesIn}
 use Rattle.outcomes.specs.Store.{Store, kinds, regions, pages}
-use Rattle.outcomes.specs.Shape.{Shaped, KindsShaped, RegionsShaped}
+use Rattle.outcomes.specs.Shape.{Sized, KindsSized, RegionsSized}
 use Rattle.outcomes.specs.Outcome.{Accepted, withRegions}
-use Rattle.outcomes.specs.Laws.Shaped.{none-counted}
+use Rattle.outcomes.specs.Laws.Sized.{none-counted}
 use Rattle.refinement.specs.Represents.{tagFor, KindsAgree, EntryAgrees, RegionsAgree, RoomAgrees, PagesAgree, Alive, idsIn, ObjectsAgree, Represents, Owned}
 use Rattle.refinement.specs.Laws.Tags.{Named, live-named, entry-name, entry-live, live-for, tag-for, parent-known, unused-free}
 use Rattle.refinement.specs.Laws.Kept.{regions-kept, pages-kept, tiles-kept}
@@ -52,7 +52,7 @@ by-kind P ks ms m old new none = go (by-same m (length ks)) (leb m (length ks)) 
     go (inr n) true q = rw (marks-append ks ms (suc m) (omega (arith, leb-true m (length ks) q))) (old (omega (arith, leb-true m (length ks) q)))
     go (inr n) false q = rw (List·getD-eq-default (ks ++ (ms ∷ [])) [] {n = m} (rw length-append (omega (arith, leb-false m (length ks) q)))) (none (leb-false m (length ks) q))
 
-module _ (ks : List (List ℕ)) (ms : List ℕ) (k : Kinds) (a : KindsAgree ks k) (s : KindsShaped k) (few : length ks < 16) (short : length ms ≤ 16)
+module _ (ks : List (List ℕ)) (ms : List ℕ) (k : Kinds) (a : KindsAgree ks k) (s : KindsSized k) (few : length ks < 16) (short : length ms ≤ 16)
     (shorts : (n : ℕ) → length (marks ks n) ≤ 16) where
   kind-size : (n : ℕ) → sizeOf (withKind k ms) n ≡ length (marks (ks ++ (ms ∷ [])) n)
   unfolding sizeOf kindCount withKind sizeIn
@@ -60,7 +60,7 @@ module _ (ks : List (List ℕ)) (ms : List ℕ) (k : Kinds) (a : KindsAgree ks k
   kind-size (suc m) = by-kind (λ l. sizeOf (withKind k ms) (suc m) ≡ length l) ks ms m
       (λ h. rw (d, lt-ltb 0 (suc m) (omega arith), le-leb (suc m) (min (k .declared + 1) 16) (omega (arith, a .declared)), getD-set-other (k .sizes) (k .declared) m (length ms) 0 (λ e. omega (arith, a .declared)))
       (rw (d, lt-ltb 0 (suc m) (omega arith), le-leb (suc m) (min (k .declared) 16) (omega (arith, a .declared))) at (a .sizes (suc m))))
-      (λ e. rw (d, lt-ltb 0 (suc m) (omega arith), le-leb (suc m) (min (k .declared + 1) 16) (omega (arith, a .declared)), e, ← (a .declared), getD-set-same (k .sizes) (k .declared) (length ms) 0 (omega (arith, a .declared, s .sizes .0))) (omega arith))
+      (λ e. rw (d, lt-ltb 0 (suc m) (omega arith), le-leb (suc m) (min (k .declared + 1) 16) (omega (arith, a .declared)), e, ← (a .declared), getD-set-same (k .sizes) (k .declared) (length ms) 0 (omega (arith, a .declared, s .sizes))) (omega arith))
       (λ h. rw (lt-ltb 0 (suc m) (omega arith), lt-leb (suc m) (min (k .declared + 1) 16) (omega (arith, a .declared))))
     where
       d : suc m - 1 ≡ m
@@ -71,7 +71,7 @@ module _ (ks : List (List ℕ)) (ms : List ℕ) (k : Kinds) (a : KindsAgree ks k
   kind-few n h = go (by-same n (k .declared))
     where
       go : (n ≡ k .declared) ⊎ (n ≢ k .declared) → getD (set (k .sizes) (k .declared) (length ms)) n 0 ≤ 16
-      go (inl e) = rw (e, getD-set-same (k .sizes) (k .declared) (length ms) 0 (omega (arith, a .declared, s .sizes .0))) short
+      go (inl e) = rw (e, getD-set-same (k .sizes) (k .declared) (length ms) 0 (omega (arith, a .declared, s .sizes))) short
       go (inr d) = rw (getD-set-other (k .sizes) (k .declared) n (length ms) 0 d) (a .few n (omega (arith, a .declared, length-append ks (ms ∷ []))))
 
   kind-marks : (n w : ℕ) → w < length (marks (ks ++ (ms ∷ [])) n) → markAt (withKind k ms) n w ≡ getD (marks (ks ++ (ms ∷ [])) n) w 0
@@ -79,7 +79,7 @@ module _ (ks : List (List ℕ)) (ms : List ℕ) (k : Kinds) (a : KindsAgree ks k
   kind-marks zero w = λ h. absurd (omega arith)
   kind-marks (suc m) w = by-kind (λ l. w < length l → markAt (withKind k ms) (suc m) w ≡ getD l w 0) ks ms m
       (λ h l. getD-sets-out ms (k .marks) (16 * k .declared) (16 * (suc m - 1) + w) 0 (inl (omega (arith, a .declared, shorts (suc m)))) ∙ a .marksAgree (suc m) w l)
-      (λ e l. rw (d, e, ← (a .declared)) (getD-sets-in ms (k .marks) (16 * k .declared) w 0 (omega (arith, a .declared, s .marks .0)) l))
+      (λ e l. rw (d, e, ← (a .declared)) (getD-sets-in ms (k .marks) (16 * k .declared) w 0 (omega (arith, a .declared, s .marks)) l))
       (λ h l. absurd (omega arith))
     where
       d : suc m - 1 ≡ m
@@ -89,7 +89,7 @@ module _ (ks : List (List ℕ)) (ms : List ℕ) (k : Kinds) (a : KindsAgree ks k
   unfolding withKind
   kinds-more = record { declared = simp length-append (omega (arith, a .declared)); sizes = kind-size; few = kind-few; marksAgree = kind-marks }
 
-module _ (L : Model) (sp : List ℕ) (ids : ℕ → List ℕ) (S : Store) (v : Valid L) (sh : Shaped S) (rep : Represents L sp ids S) where
+module _ (L : Model) (sp : List ℕ) (ids : ℕ → List ℕ) (S : Store) (v : Valid L) (sh : Sized S) (rep : Represents L sp ids S) where
   pub declare-step : (ms : List ℕ) → refusal L (declare ms) ≡ 0 → (a : Answer) (T : Store) → Accepted (declare ms) S a T
       → (a ≡ reply L (declare ms)) × Represents (accepted L (declare ms)) sp ids T
   unfolding checks reply accepted Accepted
@@ -146,13 +146,13 @@ abbrev more : Model → ℕ → ℕ → List Region
 more L u l = L .regions ++ (added L u l ∷ [])
 
 -- region u is above the new one, 0 for none; the entry i is free, and t is the tag of u
-module _ (L : Model) (sp : List ℕ) (g : Regions) (v : Valid L) (a : RegionsAgree L sp g) (sh : RegionsShaped g) (i u l t : ℕ)
+module _ (L : Model) (sp : List ℕ) (g : Regions) (v : Valid L) (a : RegionsAgree L sp g) (sh : RegionsSized g) (i u l t : ℕ)
     (i-in : i < 64) (i-free : nameAt g i ≡ 0) (hu : Named L u) (ht : t ≡ tagFor g u) where
   past : (r : ℕ) → livesIn L r ≡ true → r ≢ g .given + 1
   past r q e = omega (arith, live-all (λ x. x ≤ L .given) (L .regions) r (v .names .namesGiven) (omega arith) q, a .given)
 
   entry-same : (r : ℕ) → livesIn L r ≡ true → entryOf (withRegion g i t l) r ≡ entryOf g r
-  entry-same r q = entry-old g i t l (omega (arith, sh .names .0)) i-free r (live-named a r q) (past r q)
+  entry-same r q = entry-old g i t l (omega (arith, sh .names)) i-free r (live-named a r q) (past r q)
 
   tag-same : (r : ℕ) → livesIn L r ≡ true → tagOf (withRegion g i t l) r ≡ tagOf g r
   unfolding tagOf
@@ -171,7 +171,7 @@ module _ (L : Model) (sp : List ℕ) (g : Regions) (v : Valid L) (a : RegionsAgr
 
   entry-last : entryOf (withRegion g i t l) (L .given + 1) ≡ i
   entry-last = ap (λ n. entryOf (withRegion g i t l) (n + 1)) (sym (a .given))
-      ∙ entry-new g i t l (omega (arith, sh .names .0)) i-free i-in (λ j h e. past (nameAt g j) (entry-live a j h (λ z. omega arith)) e)
+      ∙ entry-new g i t l (omega (arith, sh .names)) i-free i-in (λ j h e. past (nameAt g j) (entry-live a j h (λ z. omega arith)) e)
 
   -- a region that lives afterwards lived, or is the new one
   by-live : (P : ℕ → Type 0) (r : ℕ) → live (more L u l) r ≡ true → (livesIn L r ≡ true → P r) → P (L .given + 1) → P r
@@ -186,8 +186,8 @@ module _ (L : Model) (sp : List ℕ) (g : Regions) (v : Valid L) (a : RegionsAgr
 
   region-rows : (f : ℕ → ℕ) → sumOf (λ j. pick (eqb (nameAt (withRegion g i t l) j) 0) 0 (f (nameAt (withRegion g i t l) j))) (upTo 64) ≡ sumOf (λ r. f (r .name)) (more L u l)
   region-rows f =
-      let c = sum-change (row (withRegion g i t l)) (row g) 64 i i-in (λ j h d. ap at (name-old g i t l (omega (arith, sh .names .0)) i-free j d)) in
-      let n : row (withRegion g i t l) i ≡ f (L .given + 1) = ap at (name-new g i t l (omega (arith, sh .names .0)) i-free) ∙ rw (a .given, ne-eqb (L .given + 1) 0 (λ e. omega arith)) in
+      let c = sum-change (row (withRegion g i t l)) (row g) 64 i i-in (λ j h d. ap at (name-old g i t l (omega (arith, sh .names)) i-free j d)) in
+      let n : row (withRegion g i t l) i ≡ f (L .given + 1) = ap at (name-new g i t l (omega (arith, sh .names)) i-free) ∙ rw (a .given, ne-eqb (L .given + 1) 0 (λ e. omega arith)) in
       let z : row g i ≡ 0 = rw i-free in
       step _ _ _ _ _ _ _ c z n (a .rows f) (sum-append (λ r. f (r .name)) (L .regions) (added L u l ∷ []))
     where
@@ -212,9 +212,9 @@ module _ (L : Model) (sp : List ℕ) (g : Regions) (v : Valid L) (a : RegionsAgr
           oldest = getD-set-other (g .oldest) i (entryOf g r) 0 0 d ∙ e .oldest;
         }))
         (rw (region-last, entry-last) (record {
-          parent = getD-set-same (g .parents) i t 0 (omega (arith, sh .parents .0)) ∙ ht ∙ sym (for-same u hu);
-          level = getD-set-same (g .levels) i l 0 (omega (arith, sh .levels .0));
-          oldest = getD-set-same (g .oldest) i 0 0 (omega (arith, sh .oldest .0));
+          parent = getD-set-same (g .parents) i t 0 (omega (arith, sh .parents)) ∙ ht ∙ sym (for-same u hu);
+          level = getD-set-same (g .levels) i l 0 (omega (arith, sh .levels));
+          oldest = getD-set-same (g .oldest) i 0 0 (omega (arith, sh .oldest));
         }));
   }
 
@@ -242,7 +242,7 @@ module _ (L : Model) (sp : List ℕ) (g : Regions) (v : Valid L) (a : RegionsAgr
 
   newest-new : newestAt (withRegion g i t l) i ≡ 0
   unfolding newestAt withRegion
-  newest-new = getD-set-same (g .newest) i 0 0 (omega (arith, sh .newest .0))
+  newest-new = getD-set-same (g .newest) i 0 0 (omega (arith, sh .newest))
 
   pub pages-more : (p : Pages) (words : ℕ) → PagesAgree L g p words → PagesAgree (addRegion L u l) (withRegion g i t l) p words
   unfolding addRegion
@@ -293,7 +293,7 @@ module _ (L : Model) (sp : List ℕ) (g : Regions) (v : Valid L) (a : RegionsAgr
       (λ k. rw (entry-same r k, region-stored L r v u l) (count-old g i t l (entryOf g r) (entry-other r k) ∙ c r k))
       (rw (entry-last, region-stored L (L .given + 1) v u l, stored-none L (L .given + 1) homes-past) (none-counted g sh i t l i-in))
 
-module _ (L : Model) (sp : List ℕ) (ids : ℕ → List ℕ) (S : Store) (v : Valid L) (sh : Shaped S) (rep : Represents L sp ids S) where
+module _ (L : Model) (sp : List ℕ) (ids : ℕ → List ℕ) (S : Store) (v : Valid L) (sh : Sized S) (rep : Represents L sp ids S) where
   -- a region more, below region u or below none
   region-step : (u l t : ℕ) → Named L u → t ≡ tagFor (regions S) u → length (L .regions) < 64
       → Represents (addRegion L u l) sp ids (withRegions S (withRegion (regions S) (unused (regions S)) t l))

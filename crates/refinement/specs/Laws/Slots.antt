@@ -26,7 +26,7 @@ use Rattle.frames.specs.Frames.{topFrame, widthAt, slotAt, putSlot}
 use Rattle.regions.specs.Laws.Recount.{beside-same}
 use Rattle.objects.specs.Objects.{wordAt, wordCount}
 use Rattle.outcomes.specs.Store.{Store, frames, kinds, regions, slot as storeSlot}
-use Rattle.outcomes.specs.Shape.{Shaped}
+use Rattle.outcomes.specs.Shape.{Sized}
 use Rattle.outcomes.specs.Outcome.{Accepted, fillSlot as storeFill}
 use Rattle.refinement.specs.Represents.{spot, imageOf, FramesAgree, Represents}
 use Rattle.refinement.specs.Laws.Tags.{live-count}
@@ -108,9 +108,9 @@ module _ (L : Model) (sp : List ℕ) (ids : ℕ → List ℕ) (S : Store) (v : V
   module _ (a : Answer) (T : Store) where
     -- ---- calls that fill a slot
 
-    module _ (z : Shaped S) where
+    module _ (z : Sized S) where
       filled : (s p x : ℕ) → lacks (top L) s ≡ false → x ≡ spot sp p → (a ≡ gives []) × (T ≡ storeFill S s x) → (a ≡ gives []) × Represents (fillSlot L s p) sp ids T
-      filled s p x k e t = (t .0, rw (t .1, e) (fill-represents (z .inFrames .slots .0) s p (leb-false (length (top L)) s k)))
+      filled s p x k e t = (t .0, rw (t .1, e) (fill-represents (z .inFrames .slots) s p (leb-false (length (top L)) s k)))
 
       pub first-step : (s r : ℕ) → refusal L (first s r) ≡ 0 → Accepted (first s r) S a T → (a ≡ reply L (first s r)) × Represents (accepted L (first s r)) sp ids T
       unfolding checks Accepted reply accepted

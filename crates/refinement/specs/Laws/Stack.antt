@@ -25,7 +25,7 @@ use Rattle.frames.specs.Frames.{topFrame, widthAt, slotAt, pushed, uncounts, po
 use Rattle.regions.specs.Regions.{tagOf}
 use Rattle.regions.specs.Laws.Recount.{beside-same, recount-beside}
 use Rattle.outcomes.specs.Store.{Store, frames, regions, slotTargets}
-use Rattle.outcomes.specs.Shape.{Shaped, FramesShaped}
+use Rattle.outcomes.specs.Shape.{Sized, FramesSized}
 use Rattle.outcomes.specs.Outcome.{Accepted, recounted, popFrame as storePop}
 use Rattle.refinement.specs.Represents.{spot, FramesAgree, Represents}
 use Rattle.refinement.specs.Laws.Reads.{frame-small, top-frame, beneath-frame, slot-is}
@@ -35,7 +35,7 @@ use Rattle.refinement.specs.Laws.Counts.{count-is, slots-into}
 
 -- ---- push
 
-push-frames : (sp : List ℕ) (fs : List (List ℕ)) (m : ℕ) (f : Frames) (n : ℕ) → FramesShaped f → length fs < 32 → n ≤ 8 → All (λ x. (1 ≤ length x) × (length x ≤ 8)) fs → FramesAgree sp fs m f
+push-frames : (sp : List ℕ) (fs : List (List ℕ)) (m : ℕ) (f : Frames) (n : ℕ) → FramesSized f → length fs < 32 → n ≤ 8 → All (λ x. (1 ≤ length x) × (length x ≤ 8)) fs → FramesAgree sp fs m f
     → FramesAgree sp (fs ++ (replicate n 0 ∷ [])) m (pushed f n)
 unfolding pushed widthAt slotAt
 push-frames sp fs m f n z few small sized h = record {
@@ -50,7 +50,7 @@ push-frames sp fs m f n z few small sized h = record {
 
     wide : (i : ℕ) → i < length (fs ++ (replicate n 0 ∷ [])) → (i ≡ length fs) ⊎ (i ≢ length fs)
         → getD (set (f .widths) (f .standing) n) i 0 ≡ length (getD (fs ++ (replicate n 0 ∷ [])) i [])
-    wide i k (inl e) = rw (e, h .standing, getD-set-same (f .widths) (length fs) n 0 (omega (arith, z .widths .0)), getD-append-seam fs (replicate n 0) [] [], length-replicate)
+    wide i k (inl e) = rw (e, h .standing, getD-set-same (f .widths) (length fs) n 0 (omega (arith, z .widths)), getD-append-seam fs (replicate n 0) [] [], length-replicate)
     wide i k (inr e) = rw (h .standing, getD-set-other (f .widths) (length fs) i n 0 e, List·getD-append fs (replicate n 0 ∷ []) [] i (old i k e)) (h .widths i (old i k e))
 
     hold : (i s : ℕ) → i < length (fs ++ (replicate n 0 ∷ [])) → s < length (getD (fs ++ (replicate n 0 ∷ [])) i []) → (i ≡ length fs) ⊎ (i ≢ length fs)
@@ -62,7 +62,7 @@ push-frames sp fs m f n z few small sized h = record {
           h .standing,
           getD-append-seam fs (replicate n 0) [] [],
           getD-replicate {A = ℕ} n s 0 0 b,
-          getD-sets-in (replicate 8 0) (f .slots) (8 * length fs) s 0 (omega (arith, z .slots .0)) (omega arith),
+          getD-sets-in (replicate 8 0) (f .slots) (8 * length fs) s 0 (omega (arith, z .slots)) (omega arith),
         ) (getD-replicate {A = ℕ} 8 s 0 0 (omega arith))
     hold i s k l (inr e) =
         let b : s < length (getD fs i []) = rw (List·getD-append fs (replicate n 0 ∷ []) [] i (old i k e)) at l in
@@ -126,7 +126,7 @@ module _ (L : Model) (sp : List ℕ) (ids : ℕ → List ℕ) (S : Store) (v : V
 -- ---- the calls
 
 module _ (L : Model) (sp : List ℕ) (ids : ℕ → List ℕ) (S : Store) (v : Valid L) (h : Represents L sp ids S) (a : Answer) (T : Store) where
-  pub push-step : Shaped S → (n : ℕ) → refusal L (push n) ≡ 0 → Accepted (push n) S a T → (a ≡ reply L (push n)) × Represents (accepted L (push n)) sp ids T
+  pub push-step : Sized S → (n : ℕ) → refusal L (push n) ≡ 0 → Accepted (push n) S a T → (a ≡ reply L (push n)) × Represents (accepted L (push n)) sp ids T
   unfolding checks Accepted reply accepted
   push-step z n e x =
       let t = passed L (push n) e in
@@ -141,7 +141,7 @@ module _ (L : Model) (sp : List ℕ) (ids : ℕ → List ℕ) (S : Store) (v : V
   unfolding Accepted reply accepted
   drop-step small x = (x .0 ∙ ap (λ k. gives (k ∷ [])) (top-frame (h .onFrames)), rw (x .1) (popped-represents L sp ids S v h small))
 
-  pub hand-step : Shaped S → ((r : ℕ) → stored L r ≤ 16640) → (s b : ℕ) → refusal L (handBack s b) ≡ 0 → Accepted (handBack s b) S a T
+  pub hand-step : Sized S → ((r : ℕ) → stored L r ≤ 16640) → (s b : ℕ) → refusal L (handBack s b) ≡ 0 → Accepted (handBack s b) S a T
       → (a ≡ reply L (handBack s b)) × Represents (accepted L (handBack s b)) sp ids T
   unfolding checks Accepted reply accepted popFrame storePop recounted popped
   hand-step z small s b e x =
@@ -152,5 +152,5 @@ module _ (L : Model) (sp : List ℕ) (ids : ℕ → List ℕ) (S : Store) (v : V
       let u : top (popFrame L) ≡ beneath L = rw (d, getD-take (topPlace (L .frames)) (L .frames) (length (L .frames) - 2) [] (omega arith)) in
       let k : b < length (top (popFrame L)) = rw u (leb-false (length (beneath L)) b (q .1)) in (
         x .0 ∙ ap (λ k. gives (k ∷ [])) (top-frame (h .onFrames)),
-        rw (x .1, slot-is h s (q .0)) (fill-represents (popFrame L) sp ids (storePop S) (pop-valid L v) (popped-represents L sp ids S v h small) (z .inFrames .slots .0) b (slot L s) k),
+        rw (x .1, slot-is h s (q .0)) (fill-represents (popFrame L) sp ids (storePop S) (pop-valid L v) (popped-represents L sp ids S v h small) (z .inFrames .slots) b (slot L s) k),
       )

@@ -1,0 +1,117 @@
+-- Every change of a part keeps the lengths of its arrays, whatever it is given.
+-- Assumes nothing.
+use mathlib.Core.Path.{_≡_, _∙_}
+use mathlib.Core.Bool.{_&&_}
+use mathlib.Core.List.{List}
+use Prim.Native.Nat.{ℕ, suc, _+_, _*_, _%_, _<_}
+use native.Mathlib.Omega.{arith}
+use lib.Dec.{eqb, ltb}
+use lib.ListN.{length, getD, set, replicate, length-set, length-replicate}
+use lib.Seq.{length-sets}
+use Rattle.lists.specs.Lists.{pick, times}
+use Rattle.lists.specs.Laws.UpTo.{length-map-upTo}
+use Rattle.frames.specs.declared.Frames.{Frames}
+use Rattle.frames.specs.Frames.{putSlot, pushed, popped, raised}
+use Rattle.kinds.specs.declared.Kinds.{Kinds}
+use Rattle.kinds.specs.Kinds.{withKind}
+use Rattle.regions.specs.declared.Regions.{Regions}
+use Rattle.regions.specs.Regions.{countAt, rolled, moved, withRegion, withoutRegion, withPage, withCounts, recount}
+use Rattle.regions.specs.Laws.Added.{count-new}
+use Rattle.pages.specs.declared.Pages.{Pages}
+use Rattle.pages.specs.Pages.{pageCount, withTaken, freed, ownersTo}
+use Rattle.outcomes.specs.Shape.{FramesSized, KindsSized, RegionsSized, PagesSized, Sized}
+use Rattle.outcomes.specs.Outcome.{store, blank}
+
+module _ (f : Frames) (h : FramesSized f) where
+  pub put-slot : (i s v : ℕ) → FramesSized (putSlot f i s v)
+  unfolding putSlot
+  put-slot i s v = record { widths = h .widths; slots = length-set (f .slots) (8 * i + s) v ∙ h .slots }
+
+  pub push-frame : (n : ℕ) → FramesSized (pushed f n)
+  unfolding pushed
+  push-frame n = record {
+    widths = length-set (f .widths) (f .standing) n ∙ h .widths;
+    slots = length-sets (f .slots) (8 * f .standing) (replicate 8 0) ∙ h .slots;
+  }
+
+  pub pop-frame : FramesSized (popped f)
+  unfolding popped
+  pop-frame = record { widths = h .widths; slots = h .slots }
+
+  pub raise-mark : FramesSized (raised f)
+  unfolding raised
+  raise-mark = record { widths = h .widths; slots = h .slots }
+
+pub with-kind : (k : Kinds) (ms : List ℕ) → KindsSized k → KindsSized (withKind k ms)
+unfolding withKind
+with-kind k ms h = record { sizes = length-set (k .sizes) (k .declared) _ ∙ h .sizes; marks = length-sets (k .marks) (16 * k .declared) ms ∙ h .marks }
+
+module _ (r : Regions) (h : RegionsSized r) where
+  pub with-region : (i t l : ℕ) → RegionsSized (withRegion r i t l)
+  unfolding withRegion
+  with-region i t l = record {
+    names = length-set (r .names) i (r .given + 1) ∙ h .names;
+    parents = length-set (r .parents) i t ∙ h .parents;
+    levels = length-set (r .levels) i l ∙ h .levels;
+    counts = length-set (r .counts) i 0 ∙ h .counts;
+    newest = length-set (r .newest) i 0 ∙ h .newest;
+    oldest = length-set (r .oldest) i 0 ∙ h .oldest;
+  }
+
+  pub none-counted : (i t l : ℕ) → i < 64 → countAt (withRegion r i t l) i ≡ 0
+  none-counted i t l b = count-new r i t l (omega (arith, h .counts))
+
+  pub without-region : (i : ℕ) → RegionsSized (withoutRegion r i)
+  unfolding withoutRegion
+  without-region i = record { names = length-set (r .names) i 0 ∙ h .names; parents = h .parents; levels = h .levels; counts = h .counts; newest = h .newest; oldest = h .oldest }
+
+  pub with-page : (i p v : ℕ) → RegionsSized (withPage r i p v)
+  unfolding withPage
+  with-page i p v = record {
+    names = h .names;
+    parents = h .parents;
+    levels = h .levels;
+    counts = h .counts;
+    newest = length-set (r .newest) i p ∙ h .newest;
+    oldest = length-set (r .oldest) i v ∙ h .oldest;
+  }
+
+  pub recount-sized : (come gone : List ℕ) → RegionsSized (recount r come gone)
+  unfolding recount withCounts moved rolled
+  recount-sized come gone = record {
+    names = h .names;
+    parents = h .parents;
+    levels = h .levels;
+    counts = length-map-upTo (λ i. (getD (r .counts) i 0 + times (suc i) come + times (suc i) gone * 4294967295) % 4294967296) 64;
+    newest = h .newest;
+    oldest = h .oldest;
+  }
+
+module _ (p : Pages) (h : PagesSized p) where
+  pub with-taken : (j t n : ℕ) → PagesSized (withTaken p j t n)
+  unfolding withTaken
+  with-taken j t n = record { owners = length-set (p .owners) j t ∙ h .owners; taken = length-set (p .taken) j n ∙ h .taken }
+
+  pub free-pages : (t : ℕ) → PagesSized (freed p t)
+  unfolding freed ownersTo
+  free-pages t = record { owners = length-map-upTo (λ j. pick (ltb j (pageCount p) && eqb (getD (p .owners) j 0) t) 0 (getD (p .owners) j 0)) 256; taken = h .taken }
+
+-- what make leaves
+pub blank-sized : (n r : ℕ) (heap : List ℕ) → Sized (store (blank n r) heap)
+unfolding blank
+blank-sized n r heap = record {
+  inFrames = record { widths = length-replicate {A = ℕ} 32 0; slots = length-replicate {A = ℕ} 256 0 };
+  inKinds = record { sizes = length-replicate {A = ℕ} 16 0; marks = length-replicate {A = ℕ} 256 0 };
+  inRegions = record {
+    names = first;
+    parents = length-replicate {A = ℕ} 64 0;
+    levels = first;
+    counts = length-replicate {A = ℕ} 64 0;
+    newest = length-replicate {A = ℕ} 64 0;
+    oldest = length-replicate {A = ℕ} 64 0;
+  };
+  inPages = record { owners = length-replicate {A = ℕ} 256 0; taken = length-replicate {A = ℕ} 256 0 };
+}
+  where
+    first : length (set (replicate 64 0) 0 r) ≡ 64
+    first = length-set (replicate 64 0) 0 r ∙ length-replicate {A = ℕ} 64 0

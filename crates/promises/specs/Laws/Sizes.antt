@@ -1,0 +1,103 @@
+-- Every outcome keeps the lengths of the arrays, whatever the call is given.
+-- Assumes nothing.
+use mathlib.Core.Path.{subst⁻¹}
+use mathlib.Core.List.{List, []}
+use Prim.Native.Nat.{ℕ, zero, suc}
+use Rattle.model.specs.Model.{Answer, Call, declare, newRegion, subregion, push, dropFrame, handBack, allocate, first, copy, fetch, clear, load, setPointer, put, get, view, same, about, report, totals, audit, delete}
+use Rattle.frames.specs.declared.Frames.{Frames}
+use Rattle.frames.specs.Frames.{topFrame}
+use Rattle.regions.specs.declared.Regions.{Regions}
+use Rattle.regions.specs.Regions.{entryOf, tagOf}
+use Rattle.pages.specs.declared.Pages.{Pages}
+use Rattle.outcomes.specs.Store.{Store, frames, kinds, regions, pages}
+use Rattle.outcomes.specs.Shape.{FramesSized, RegionsSized, PagesSized, Sized}
+use Rattle.outcomes.specs.Outcome.{Outcome, Accepted, Answered, refusal, withFrames, withRegions, withPages, withHeap, fillSlot, writeWord, recounted, pointed, popFrame, allocated, outgoing, newlyCounted, deleted}
+use Rattle.outcomes.specs.Laws.Sized.{put-slot, push-frame, pop-frame, raise-mark, with-kind, with-region, without-region, with-page, recount-sized, with-taken, free-pages}
+
+-- ---- a store with another part
+
+module _ (S : Store) (h : Sized S) where
+  with-frames : (f : Frames) → FramesSized f → Sized (withFrames S f)
+  with-frames f k = record { inFrames = k; inKinds = h .inKinds; inRegions = h .inRegions; inPages = h .inPages }
+
+  with-regions : (g : Regions) → RegionsSized g → Sized (withRegions S g)
+  with-regions g k = record { inFrames = h .inFrames; inKinds = h .inKinds; inRegions = k; inPages = h .inPages }
+
+  with-pages : (p : Pages) → PagesSized p → Sized (withPages S p)
+  with-pages p k = record { inFrames = h .inFrames; inKinds = h .inKinds; inRegions = h .inRegions; inPages = k }
+
+  with-heap : (l : List ℕ) → Sized (withHeap S l)
+  with-heap l = record { inFrames = h .inFrames; inKinds = h .inKinds; inRegions = h .inRegions; inPages = h .inPages }
+
+-- ---- the steps that several calls share
+
+module _ (S : Store) (h : Sized S) where
+  filled : (s v : ℕ) → Sized (fillSlot S s v)
+  unfolding fillSlot
+  filled s v = with-frames S h _ (put-slot (frames S) (h .inFrames) (topFrame (frames S)) s v)
+
+  written : (v w x : ℕ) → Sized (writeWord S v w x)
+  unfolding writeWord
+  written v w x = with-heap S h _
+
+  recounted-sized : (come gone : List ℕ) → Sized (recounted S come gone)
+  unfolding recounted
+  recounted-sized come gone = with-regions S h _ (recount-sized (regions S) (h .inRegions) come gone)
+
+  popped-sized : Sized (popFrame S)
+  unfolding popFrame
+  popped-sized = with-frames _ (recounted-sized [] _) _ (pop-frame (frames S) (h .inFrames))
+
+  deleted-sized : (r : ℕ) → Sized (deleted S r)
+  unfolding deleted
+  deleted-sized r =
+      let T = recounted S (newlyCounted S) (outgoing S (tagOf (regions S) r)) in
+      let m = recounted-sized (newlyCounted S) (outgoing S (tagOf (regions S) r)) in
+      let g = with-regions T m _ (without-region (regions T) (m .inRegions) (entryOf (regions S) r)) in
+      with-frames _ (with-pages _ g _ (free-pages (pages S) (h .inPages) (tagOf (regions S) r))) _ (raise-mark (frames S) (h .inFrames))
+
+pointed-sized : (S : Store) → Sized S → (v w x : ℕ) → Sized (pointed S v w x)
+unfolding pointed
+pointed-sized S h v w x = written _ (recounted-sized S h _ _) v w x
+
+allocated-sized : (S : Store) (s i k j : ℕ) → Sized S → Sized (allocated S s i k j)
+unfolding allocated
+allocated-sized S s i k j h =
+    let p = with-pages _ (with-heap S h _) _ (with-taken (pages S) (h .inPages) j _ _) in
+    filled _ (with-regions _ p _ (with-page (regions S) (h .inRegions) i _ _)) s _
+
+-- ---- every call
+
+accepted-sized : (c : Call) (S : Store) (a : Answer) (T : Store) → Sized S → Accepted c S a T → Sized T
+unfolding Accepted
+accepted-sized (declare ms) S a T h q =
+    subst⁻¹ Sized (q .1) (record { inFrames = h .inFrames; inKinds = with-kind (kinds S) ms (h .inKinds); inRegions = h .inRegions; inPages = h .inPages })
+accepted-sized newRegion S a T h q = subst⁻¹ Sized (q .1) (with-regions S h _ (with-region (regions S) (h .inRegions) _ _ _))
+accepted-sized (subregion r) S a T h q = subst⁻¹ Sized (q .1) (with-regions S h _ (with-region (regions S) (h .inRegions) _ _ _))
+accepted-sized (push n) S a T h q = subst⁻¹ Sized (q .1) (with-frames S h _ (push-frame (frames S) (h .inFrames) n))
+accepted-sized dropFrame S a T h q = subst⁻¹ Sized (q .1) (popped-sized S h)
+accepted-sized (handBack s b) S a T h q = subst⁻¹ Sized (q .1) (filled _ (popped-sized S h) _ _)
+accepted-sized (allocate s r k) S a T h q = subst⁻¹ Sized (q .1 .2) (allocated-sized S _ _ _ _ h)
+accepted-sized (first s r) S a T h q = subst⁻¹ Sized (q .1) (filled S h _ _)
+accepted-sized (copy s t) S a T h q = subst⁻¹ Sized (q .1) (filled S h _ _)
+accepted-sized (fetch b s) S a T h q = subst⁻¹ Sized (q .1) (filled S h _ _)
+accepted-sized (clear s) S a T h q = subst⁻¹ Sized (q .1) (filled S h _ _)
+accepted-sized (load s w t) S a T h q = subst⁻¹ Sized (q .1) (filled S h _ _)
+accepted-sized (setPointer s w v) S a T h q = subst⁻¹ Sized (q .1) (pointed-sized S h _ _ _)
+accepted-sized (put s w x) S a T h q = subst⁻¹ Sized (q .1) (written S h _ _ _)
+accepted-sized (get s w) S a T h q = subst⁻¹ Sized (q .1) h
+accepted-sized (view s) S a T h q = subst⁻¹ Sized (q .1) h
+accepted-sized (same s t) S a T h q = subst⁻¹ Sized (q .1) h
+accepted-sized (about s) S a T h q = subst⁻¹ Sized (q .1) h
+accepted-sized (report r) S a T h q = subst⁻¹ Sized (q .1) h
+accepted-sized totals S a T h q = subst⁻¹ Sized (q .1) h
+accepted-sized audit S a T h q = subst⁻¹ Sized (q .1) h
+accepted-sized (delete r) S a T h q = subst⁻¹ Sized (q .1) (deleted-sized S h r)
+
+pub keeps-size : (c : Call) (S : Store) (a : Answer) (T : Store) → Sized S → Outcome c S a T → Sized T
+unfolding Outcome
+keeps-size c S a T h o = go (refusal S c) o
+  where
+    go : (n : ℕ) → Answered n c S a T → Sized T
+    go zero k = accepted-sized c S a T h k
+    go (suc n) k = subst⁻¹ Sized (k .1) h
