@@ -1,7 +1,7 @@
 -- What a line of a script says. A line is a list of bytes. Its words are a call's name, or its number in document 01 (The calls), and the
 -- arguments in document 01's order, written in decimal.
 -- Assumes nothing.
-use mathlib.Core.Bool.{Bool, false, not, _&&_, _||_}
+use mathlib.Core.Bool.{Bool, not, _&&_, _||_}
 use mathlib.Core.List.{List, [], _∷_, map}
 use Prim.Native.Nat.{ℕ, suc, _+_, _-_, _*_, min}
 use Prim.Native.Char.{code}
