@@ -62,7 +62,7 @@ fn led(s: State, heap: &mut [u32], codes: &[u32]) -> State {
         let k = codes[i];
         let a = k / 10000 % 100;
         let b = k / 100 % 100;
-        let d = store::call(t, heap, k / 1000000, a, b, k % 100, &none);
+        let d = store::call(t, heap, k / 1000000, a, b, k % 100, 0, &none);
         t = d.state;
         i += 1;
     }
@@ -117,7 +117,7 @@ pub extern "C" fn bench_changing(
             12 => store::clear(s, heap, 0),
             13 => store::load(s, heap, 0, 0, 5),
             14 => store::set_pointer(s, heap, 0, 0, 1 + i % 2),
-            _ => store::call(s, heap, which % 100, 0, 0, 0, &none),
+            _ => store::call(s, heap, which % 100, 0, 0, 0, 0, &none),
         };
         s = d.state;
         sum = refused(sum, d.reply);

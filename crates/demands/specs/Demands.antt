@@ -1,5 +1,5 @@
 -- The three demands, and more. They speak of `Outcome`, which is what every public call's contract says, of lists of calls (`Run`) and of what these tell (`history`).
--- Each is a type. The theorems are in Laws: demand1, demand2 and audited-answers, demand3, stays-sound, stays-shown, starts-agree and runs-exist, table-holds and further-holds.
+-- Each is a type. The theorems are in Laws: demand1, demand2 and audited-answers, demand3, stays-sound, counts-fit, stays-shown, starts-agree and runs-exist, table-holds and further-holds.
 -- Assumes nothing.
 use mathlib.Core.Path.{_≡_}
 use mathlib.Core.Logic.{_↔_, _≢_}
@@ -72,6 +72,12 @@ Demand3 = (S : Store) (h : History) → Start S h → (es : List Event) (T : Sto
 -- More than the demands: the audit, asked after any such list of calls, gives 1.
 unfoldable pub StaysSound : Type 0
 StaysSound = (S : Store) (h : History) → Start S h → (es : List Event) (T U : Store) (a : Answer) → Run S es T → Outcome audit T a U → a ≡ gives (1 ∷ [])
+
+-- More than the demands: after any such list of calls no live region has more than 16,640 outside pointers, so no stored count passes that, and none needs a clamp (document 01, The store).
+unfoldable pub CountsFit : Type 0
+CountsFit =
+    (S : Store) (h : History) → Start S h → (es : List Event) (T : Store) → Run S es T
+    → (r : ℕ) → isLive (history h es) r ≡ true → (outside (history h es) T r ≤ 16640) × (storedCount T r ≤ 16640)
 
 -- the memory S lists what the calls told (h). `begin` reads memory entry by entry and page by page, h is in the order of the calls
 pub record Shows (h : History) (S : Store) : Type 0 where

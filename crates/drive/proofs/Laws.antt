@@ -1,12 +1,12 @@
 -- A text line by line, and the run that its calls make, one by one.
 -- Assumes nothing.
 use mathlib.Core.Path.{_≡_, refl, sym, ap, subst, _∙_}
-use mathlib.Core.Bool.{Bool, true, false, not, _&&_}
+use mathlib.Core.Bool.{Bool, true, false, not}
 use mathlib.Core.List.{List, [], _∷_, _++_, append-nil}
 use Prim.Native.Nat.{ℕ, suc, _+_, _<_, _≤_}
 use native.Mathlib.Omega.{arith}
-use lib.Dec.{eqb, leb}
-use lib.ListN.{length, getD, take, drop, drop-of-length-le, length-drop}
+use lib.Dec.{eqb}
+use lib.ListN.{length, drop, drop-of-length-le, length-drop}
 use lib.Seq.{drop-drop}
 use Rattle.lists.specs.Lists.{pick, joined}
 use Rattle.lists.specs.Laws.Finds.{map-append}
@@ -14,11 +14,11 @@ use Rattle.model.specs.Model.{Call}
 use Rattle.outcomes.specs.Store.{Store}
 use Rattle.outcomes.specs.Outcome.{Outcome, answerOf}
 use Rattle.outcomes.specs.Runs.{Event, calls, Run, done, step}
-use Rattle.store.specs.Dispatch.{decoded, DispatchedBy, Dispatched}
+use Rattle.store.specs.Dispatch.{isCall, DispatchedBy, Dispatched}
 use Rattle.script.specs.declared.Line.{Line}
 use Rattle.script.specs.Script.{front, ofClass, grown, scanned}
 use Rattle.script.specs.Found.{LineAt}
-use Rattle.drive.specs.Scripted.{linesOf, callsOf, Called, scripted}
+use Rattle.drive.specs.Scripted.{linesOf, lineCall, callsOf, Called, scripted}
 
 abbrev firstLine : List ℕ → List ℕ
 firstLine l = front (ofClass 2) l
@@ -70,10 +70,10 @@ snoc e (step p r) o = step p (snoc e r o)
 pub called-next : {S T U : Store} {es : List Event} (l : Line) → Called l T U → Run S es T
     → (fs : List Event) × Run S fs U × (calls fs ≡ calls es ++ callsOf l)
 unfolding Dispatched callsOf
-called-next {S} {T} {U} {es} l (r, k) g = go (leb 2 (l .call) && leb (l .call) 23) k
+called-next {S} {T} {U} {es} l (r, k) g = go (isCall (l .call)) k
   where
     c : Call
-    c = decoded (l .call) (getD (l .args) 0 0) (getD (l .args) 1 0) (getD (l .args) 2 0) (take (l .count) (l .args))
+    c = lineCall l
 
     go : (x : Bool) → DispatchedBy x c T r U → (fs : List Event) × Run S fs U × (calls fs ≡ calls es ++ pick x (c ∷ []) [])
     go true (part, o) =

@@ -1,10 +1,10 @@
 -- What a script does: its lines, the calls that they are, and the run of the store that these make.
 -- Assumes nothing.
 use mathlib.Core.Path.{_≡_}
-use mathlib.Core.Bool.{true, _&&_}
+use mathlib.Core.Bool.{true}
 use mathlib.Core.List.{List, [], _∷_}
 use Prim.Native.Nat.{ℕ}
-use lib.Dec.{eqb, leb}
+use lib.Dec.{eqb}
 use lib.ListN.{getD, take}
 use Rattle.lists.specs.Lists.{pick, joined}
 use Rattle.model.specs.Model.{Answer, Call}
@@ -13,7 +13,7 @@ use Rattle.state.specs.declared.Reply.{Reply}
 use Rattle.outcomes.specs.Store.{Store}
 use Rattle.outcomes.specs.Outcome.{MakeOutcome, store}
 use Rattle.outcomes.specs.Runs.{Event, calls, Run}
-use Rattle.store.specs.Dispatch.{decoded, Dispatched}
+use Rattle.store.specs.Dispatch.{isCall, decoded, Dispatched}
 use Rattle.script.specs.declared.Line.{Line}
 use Rattle.script.specs.Script.{grown, scanned}
 
@@ -22,17 +22,21 @@ unfoldable pub linesOf : List ℕ → List (List ℕ)
 linesOf [] = []
 linesOf (b ∷ l) = pick (eqb b 10) ([] ∷ linesOf l) (grown b (linesOf l))
 
--- the call that a scanned line is, if it is one of calls 2 to 23
-unfoldable pub callsOf : Line → List Call
-callsOf l =
+-- the call that a scanned line's number names: the line's first four arguments are its numbers, and all of them its list
+abbrev pub lineCall : Line → Call
+lineCall l =
     let a = l .args in
-    pick (leb 2 (l .call) && leb (l .call) 23) (decoded (l .call) (getD a 0 0) (getD a 1 0) (getD a 2 0) (take (l .count) a) ∷ []) []
+    decoded (l .call) (getD a 0 0) (getD a 1 0) (getD a 2 0) (getD a 3 0) (take (l .count) a)
+
+-- that call, or none where the number is no call's
+unfoldable pub callsOf : Line → List Call
+callsOf l = pick (isCall (l .call)) (lineCall l ∷ []) []
 
 -- what a line does to the store: the outcome of its call, with some reply
 abbrev pub Called : Line → Store → Store → Type 0
 Called l S T =
     let a = l .args in
-    (r : Reply) × Dispatched (l .call) (getD a 0 0) (getD a 1 0) (getD a 2 0) (take (l .count) a) S r T
+    (r : Reply) × Dispatched (l .call) (getD a 0 0) (getD a 1 0) (getD a 2 0) (getD a 3 0) (take (l .count) a) S r T
 
 -- the calls of a text that comes after `pages`
 unfoldable pub scripted : List ℕ → List Call

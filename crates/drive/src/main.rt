@@ -10,12 +10,12 @@ ghost use Rattle.state.specs.declared.State.{State};
 ghost use Rattle.outcomes.specs.Outcome.{store};
 ghost use Rattle.drive.specs.Scripted.{Called, Scripted, ScriptedFrom};
 
-// What a scanned line is where it is none of calls 2 to 23.
+// What a scanned line is where it is no call on a store that is made.
 const NOTHING: u32 = 0;
 
 const PAGES: u32 = 1;
 
-const NO_CALL: u32 = 24;
+const NO_CALL: u32 = 255;
 
 // The call whose reply gets the length of a part.
 const VIEW: u32 = 17;
@@ -62,6 +62,7 @@ fn called(s: State, heap: &mut [u32], l: Line) -> Done
         a[0],
         a[1],
         a[2],
+        a[3],
         cells::part(&a, 0, l.count as usize),
     );
     let t = d.state;

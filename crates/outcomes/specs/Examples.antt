@@ -5,20 +5,10 @@ use mathlib.Core.List.{List, [], _∷_, _++_}
 use Prim.Native.Nat.{ℕ}
 use lib.ListN.{set, replicate}
 use Rattle.regions.specs.Regions.{withRegion}
-use Rattle.outcomes.specs.Store.{Store, regions}
-use Rattle.outcomes.specs.Outcome.{withRegions}
+use Rattle.outcomes.specs.Store.{Store, frames, kinds, regions, pages}
+use Rattle.outcomes.specs.Outcome.{withFrames, withKinds, withRegions, withPages, withHeap}
 
--- the numbers and arrays of the state in their order, then the heap
-abbrev mem : ℕ → ℕ → List ℕ → List ℕ → ℕ → List ℕ → List ℕ → ℕ → List ℕ → List ℕ → List ℕ → List ℕ → List ℕ → List ℕ → ℕ → List ℕ → List ℕ → List ℕ → Store
-mem st m w s d z k g n p l c e o j ow t h = record {
-  state = record {
-    frames = record { standing = st; counted = m; widths = w; slots = s };
-    kinds = record { declared = d; sizes = z; marks = k };
-    regions = record { given = g; names = n; parents = p; levels = l; counts = c; newest = e; oldest = o };
-    pages = record { made = j; owners = ow; taken = t };
-  };
-  heap = h;
-}
+-- ---- what the memories hold
 
 -- two frames: slots 0 and 1 of the lower, slot 0 of the upper
 abbrev ws : List ℕ
@@ -79,13 +69,99 @@ abbrev above : List ℕ
 above = 0 ∷ 1 ∷ 2 ∷ 3 ∷ 4 ∷ 5 ∷ 6 ∷ 7 ∷ 8 ∷ 9 ∷ 10 ∷ 11 ∷ 12 ∷ 13 ∷ 14 ∷ 15 ∷ 16 ∷ replicate 47 0
 
 abbrev pub small : Store
-small = mem 2 1 ws sl 3 sz mk 7 nm pa lv ct nw ol 2 ow tk hp
+small = record {
+  state = record {
+    frames = record { standing = 2; counted = 1; widths = ws; slots = sl };
+    kinds = record { declared = 3; sizes = sz; marks = mk };
+    regions = record { given = 7; names = nm; parents = pa; levels = lv; counts = ct; newest = nw; oldest = ol };
+    pages = record { made = 2; owners = ow; taken = tk };
+  };
+  heap = hp;
+}
+
+-- ---- a memory with one number or array of it changed
+
+-- Each part is put together in one place. A number or array that the state gains later is handed on there, as S has it; it starts in `small`, and gets
+-- a function of its own here.
+abbrev framesBy : Store → ℕ → ℕ → List ℕ → List ℕ → Store
+framesBy S n m w s = withFrames S (record { standing = n; counted = m; widths = w; slots = s })
+
+abbrev kindsBy : Store → ℕ → List ℕ → List ℕ → Store
+kindsBy S n z k = withKinds S (record { declared = n; sizes = z; marks = k })
+
+abbrev regionsBy : Store → ℕ → List ℕ → List ℕ → List ℕ → List ℕ → List ℕ → List ℕ → Store
+regionsBy S g n p l c e o = withRegions S (record { given = g; names = n; parents = p; levels = l; counts = c; newest = e; oldest = o })
+
+abbrev pagesBy : Store → ℕ → List ℕ → List ℕ → Store
+pagesBy S n o t = withPages S (record { made = n; owners = o; taken = t })
+
+-- a memory with a change made to it
+infixl 50 _but_
+abbrev _but_ : Store → (Store → Store) → Store
+S but f = f S
+
+abbrev standing : ℕ → Store → Store
+standing x S = let f = frames S in framesBy S x (f .counted) (f .widths) (f .slots)
+
+abbrev counted : ℕ → Store → Store
+counted x S = let f = frames S in framesBy S (f .standing) x (f .widths) (f .slots)
+
+abbrev widths : List ℕ → Store → Store
+widths x S = let f = frames S in framesBy S (f .standing) (f .counted) x (f .slots)
+
+abbrev slots : List ℕ → Store → Store
+slots x S = let f = frames S in framesBy S (f .standing) (f .counted) (f .widths) x
+
+abbrev declared : ℕ → Store → Store
+declared x S = let k = kinds S in kindsBy S x (k .sizes) (k .marks)
+
+abbrev sizes : List ℕ → Store → Store
+sizes x S = let k = kinds S in kindsBy S (k .declared) x (k .marks)
+
+abbrev marks : List ℕ → Store → Store
+marks x S = let k = kinds S in kindsBy S (k .declared) (k .sizes) x
+
+abbrev given : ℕ → Store → Store
+given x S = let r = regions S in regionsBy S x (r .names) (r .parents) (r .levels) (r .counts) (r .newest) (r .oldest)
+
+abbrev names : List ℕ → Store → Store
+names x S = let r = regions S in regionsBy S (r .given) x (r .parents) (r .levels) (r .counts) (r .newest) (r .oldest)
+
+abbrev parents : List ℕ → Store → Store
+parents x S = let r = regions S in regionsBy S (r .given) (r .names) x (r .levels) (r .counts) (r .newest) (r .oldest)
+
+abbrev levels : List ℕ → Store → Store
+levels x S = let r = regions S in regionsBy S (r .given) (r .names) (r .parents) x (r .counts) (r .newest) (r .oldest)
+
+abbrev counts : List ℕ → Store → Store
+counts x S = let r = regions S in regionsBy S (r .given) (r .names) (r .parents) (r .levels) x (r .newest) (r .oldest)
+
+abbrev newest : List ℕ → Store → Store
+newest x S = let r = regions S in regionsBy S (r .given) (r .names) (r .parents) (r .levels) (r .counts) x (r .oldest)
+
+abbrev oldest : List ℕ → Store → Store
+oldest x S = let r = regions S in regionsBy S (r .given) (r .names) (r .parents) (r .levels) (r .counts) (r .newest) x
+
+abbrev made : ℕ → Store → Store
+made x S = let p = pages S in pagesBy S x (p .owners) (p .taken)
+
+abbrev owners : List ℕ → Store → Store
+owners x S = let p = pages S in pagesBy S (p .made) x (p .taken)
+
+abbrev taken : List ℕ → Store → Store
+taken x S = let p = pages S in pagesBy S (p .made) (p .owners) x
+
+abbrev heap : List ℕ → Store → Store
+heap x S = withHeap S x
+
+-- ---- memories
 
 -- `small` with a region more, named 8, which has no page yet
 abbrev pub grown : Store
 grown = withRegions small (withRegion (regions small) 1 0 1)
 
--- a memory, and the numbers of Sound's clauses that it breaks, from 0 in the order of the fields:
+-- A memory, and the numbers of Sound's clauses that it breaks, from 0 in the order of the fields; a clause added later goes to the end of Sound and of the
+-- list of clauses, so that these numbers stay:
 -- 0 counts, 1 slots, 2 words, 3 held, 4 made, 5 declared, 6 sizes, 7 marks, 8 standing, 9 widths, 10 levels, 11 given, 12 counted, 13 heapLength, 14 distinct, 15 namesGiven, 16 permanent, 17 parents, 18 filling, 19 newest, 20 oldest
 pub record Example : Type 0 where
   pub memory : Store
@@ -98,85 +174,85 @@ abbrev pub examples : List Example
 examples =
     example small []
     -- a stored count one too low
-    ∷ example (mem 2 1 ws sl 3 sz mk 7 nm pa lv (set ct 0 1) nw ol 2 ow tk hp) (0 ∷ [])
+    ∷ example (small but counts (set ct 0 1)) (0 ∷ [])
     -- a stored count one too high
-    ∷ example (mem 2 1 ws sl 3 sz mk 7 nm pa lv (set ct 2 3) nw ol 2 ow tk hp) (0 ∷ [])
+    ∷ example (small but counts (set ct 2 3)) (0 ∷ [])
     -- a slot that leads to no header
-    ∷ example (mem 2 1 ws (set sl 8 67) 3 sz mk 7 nm pa lv ct nw ol 2 ow tk hp) (1 ∷ [])
+    ∷ example (small but slots (set sl 8 67)) (1 ∷ [])
     -- a slot that leads to a header on a free page
-    ∷ example (mem 2 1 ws (set sl 8 129) 3 sz mk 7 nm pa lv ct nw ol 3 (set ow 2 0) (set tk 2 3) (hp ++ (1 ∷ 0 ∷ 0 ∷ replicate 61 99))) (1 ∷ [])
+    ∷ example (small but slots (set sl 8 129) but made 3 but owners (set ow 2 0) but taken (set tk 2 3) but heap (hp ++ (1 ∷ 0 ∷ 0 ∷ replicate 61 99))) (1 ∷ [])
     -- a word marked 2 that leads nowhere
-    ∷ example (mem 2 1 ws sl 3 sz mk 7 nm pa lv ct nw ol 2 ow tk (set hp 68 66)) (2 ∷ [])
+    ∷ example (small but heap (set hp 68 66)) (2 ∷ [])
     -- a word marked 2 that leads to another region
-    ∷ example (mem 2 1 ws sl 3 sz mk 7 nm pa lv ct nw ol 2 ow tk (set hp 68 1)) (2 ∷ [])
+    ∷ example (small but heap (set hp 68 1)) (2 ∷ [])
     -- a word marked 3 that leads beyond the region above: region 5 at level 1 has none above
-    ∷ example (mem 2 1 ws sl 3 sz mk 7 nm (set pa 2 0) (set lv 2 1) ct nw ol 2 ow tk hp) (2 ∷ [])
+    ∷ example (small but parents (set pa 2 0) but levels (set lv 2 1)) (2 ∷ [])
     -- a word marked 4 that leads to region 5
-    ∷ example (mem 2 1 ws sl 3 sz mk 7 nm pa lv ct nw ol 2 ow tk (set hp 70 65)) (2 ∷ [])
+    ∷ example (small but heap (set hp 70 65)) (2 ∷ [])
     -- a page entered as neither: its entry is not in use. Its objects are then not live
-    ∷ example (mem 2 1 ws sl 3 sz mk 7 nm pa lv ct nw ol 2 (set ow 1 2) tk hp) (0 ∷ 1 ∷ 2 ∷ 3 ∷ 19 ∷ 20 ∷ [])
+    ∷ example (small but owners (set ow 1 2)) (0 ∷ 1 ∷ 2 ∷ 3 ∷ 19 ∷ 20 ∷ [])
     -- a third page, entered as neither
-    ∷ example (mem 2 1 ws sl 3 sz mk 7 nm pa lv ct nw ol 3 (set ow 2 2) (set tk 2 0) (hp ++ replicate 64 99)) (3 ∷ [])
+    ∷ example (small but made 3 but owners (set ow 2 2) but taken (set tk 2 0) but heap (hp ++ replicate 64 99)) (3 ∷ [])
     -- no page made
-    ∷ example (mem 0 0 ws sl 3 sz mk 7 nm pa lv none none none 0 ow tk []) (4 ∷ [])
+    ∷ example (small but standing 0 but counted 0 but counts none but newest none but oldest none but made 0 but heap []) (4 ∷ [])
     -- 17 kinds: the last has no size
-    ∷ example (mem 2 1 ws sl 17 (2 ∷ 3 ∷ 2 ∷ replicate 13 1) (1 ∷ 0 ∷ replicate 14 77 ++ (2 ∷ 3 ∷ 4 ∷ replicate 237 0)) 7 nm pa lv ct nw ol 2 ow tk hp) (5 ∷ 6 ∷ [])
+    ∷ example (small but declared 17 but sizes (2 ∷ 3 ∷ 2 ∷ replicate 13 1) but marks (1 ∷ 0 ∷ replicate 14 77 ++ (2 ∷ 3 ∷ 4 ∷ replicate 237 0))) (5 ∷ 6 ∷ [])
     -- a kind with no word
-    ∷ example (mem 2 1 ws sl 4 (set sz 3 0) mk 7 nm pa lv ct nw ol 2 ow tk hp) (6 ∷ [])
+    ∷ example (small but declared 4 but sizes (set sz 3 0)) (6 ∷ [])
     -- a mark above 4
-    ∷ example (mem 2 1 ws sl 4 (set sz 3 1) (set mk 48 5) 7 nm pa lv ct nw ol 2 ow tk hp) (7 ∷ [])
+    ∷ example (small but declared 4 but sizes (set sz 3 1) but marks (set mk 48 5)) (7 ∷ [])
     -- 33 frames
-    ∷ example (mem 33 1 (2 ∷ replicate 31 1) (1 ∷ 65 ∷ replicate 6 0 ++ (68 ∷ replicate 247 0)) 3 sz mk 7 nm pa lv ct nw ol 2 ow tk hp) (8 ∷ [])
+    ∷ example (small but standing 33 but widths (2 ∷ replicate 31 1) but slots (1 ∷ 65 ∷ replicate 6 0 ++ (68 ∷ replicate 247 0))) (8 ∷ [])
     -- a frame of 9 slots
-    ∷ example (mem 2 1 (set ws 1 9) (1 ∷ 65 ∷ replicate 6 0 ++ (68 ∷ replicate 247 0)) 3 sz mk 7 nm pa lv ct nw ol 2 ow tk hp) (9 ∷ [])
+    ∷ example (small but widths (set ws 1 9) but slots (1 ∷ 65 ∷ replicate 6 0 ++ (68 ∷ replicate 247 0))) (9 ∷ [])
     -- a frame of no slot
-    ∷ example (mem 2 1 (set ws 1 0) sl 3 sz mk 7 nm pa lv ct nw ol 2 ow tk hp) (9 ∷ [])
+    ∷ example (small but widths (set ws 1 0)) (9 ∷ [])
     -- a name above 1,000,000 given
-    ∷ example (mem 2 1 ws sl 3 sz mk 1000001 nm pa lv ct nw ol 2 ow tk hp) (11 ∷ [])
+    ∷ example (small but given 1000001) (11 ∷ [])
     -- m not below the number of frames
-    ∷ example (mem 2 2 ws sl 3 sz mk 7 nm pa lv (set ct 2 3) nw ol 2 ow tk hp) (12 ∷ [])
+    ∷ example (small but counted 2 but counts (set ct 2 3)) (12 ∷ [])
     -- a heap that lacks its last word
-    ∷ example (mem 2 1 ws sl 3 sz mk 7 nm pa lv ct nw ol 2 ow tk (page0 ++ (1 ∷ 1 ∷ 42 ∷ 2 ∷ 65 ∷ 4 ∷ 1 ∷ replicate 56 99))) (13 ∷ [])
+    ∷ example (small but heap (page0 ++ (1 ∷ 1 ∷ 42 ∷ 2 ∷ 65 ∷ 4 ∷ 1 ∷ replicate 56 99))) (13 ∷ [])
     -- two entries with one name
-    ∷ example (mem 2 1 ws sl 3 sz mk 7 (set nm 3 5) (set pa 3 1) (set lv 3 2) (set ct 3 0) (set nw 3 0) (set ol 3 0) 2 ow tk hp) (14 ∷ [])
+    ∷ example (small but names (set nm 3 5) but parents (set pa 3 1) but levels (set lv 3 2) but counts (set ct 3 0) but newest (set nw 3 0) but oldest (set ol 3 0)) (14 ∷ [])
     -- a name that was not given
-    ∷ example (mem 2 1 ws sl 3 sz mk 4 nm pa lv ct nw ol 2 ow tk hp) (15 ∷ [])
+    ∷ example (small but given 4) (15 ∷ [])
     -- a name that was not given, in the last entry
-    ∷ example (mem 2 1 ws sl 3 sz mk 7 (set nm 63 8) (set pa 63 0) (set lv 63 1) (set ct 63 0) (set nw 63 0) (set ol 63 0) 2 ow tk hp) (15 ∷ [])
+    ∷ example (small but names (set nm 63 8) but parents (set pa 63 0) but levels (set lv 63 1) but counts (set ct 63 0) but newest (set nw 63 0) but oldest (set ol 63 0)) (15 ∷ [])
     -- region 1 under another name, the word marked 4 null
-    ∷ example (mem 2 1 ws sl 3 sz mk 7 (set nm 0 2) pa lv ct nw ol 2 ow tk (set hp 70 0)) (16 ∷ [])
+    ∷ example (small but names (set nm 0 2) but heap (set hp 70 0)) (16 ∷ [])
     -- a region above that is not in use, the word marked 3 null
-    ∷ example (mem 2 1 ws sl 3 sz mk 7 nm (set pa 2 2) (set lv 1 1) ct nw ol 2 ow tk (set hp 69 0)) (17 ∷ [])
+    ∷ example (small but parents (set pa 2 2) but levels (set lv 1 1) but heap (set hp 69 0)) (17 ∷ [])
     -- a level two more than the one above
-    ∷ example (mem 2 1 ws sl 3 sz mk 7 nm pa (set lv 2 3) ct nw ol 2 ow tk hp) (17 ∷ [])
+    ∷ example (small but levels (set lv 2 3)) (17 ∷ [])
     -- 17 regions, each below the one before: level 17
-    ∷ example (mem 0 0 ws sl 3 sz mk 17 chain above chain (replicate 64 0) (replicate 64 0) (replicate 64 0) 1 (replicate 256 0) tk (replicate 64 99)) (10 ∷ [])
+    ∷ example (small but standing 0 but counted 0 but given 17 but names chain but parents above but levels chain but counts (replicate 64 0) but newest (replicate 64 0) but oldest (replicate 64 0) but made 1 but owners (replicate 256 0) but heap (replicate 64 99)) (10 ∷ [])
     -- a region with none above at level 2, the word marked 3 null
-    ∷ example (mem 2 1 ws sl 3 sz mk 7 nm (set pa 2 0) lv ct nw ol 2 ow tk (set hp 69 0)) (17 ∷ [])
+    ∷ example (small but parents (set pa 2 0) but heap (set hp 69 0)) (17 ∷ [])
     -- region 1 below region 5, the word marked 3 null
-    ∷ example (mem 2 1 ws sl 3 sz mk 7 nm (3 ∷ 77 ∷ 0 ∷ replicate 61 77) (2 ∷ 77 ∷ 1 ∷ replicate 61 77) ct nw ol 2 ow tk (set hp 69 0)) (17 ∷ [])
+    ∷ example (small but parents (3 ∷ 77 ∷ 0 ∷ replicate 61 77) but levels (2 ∷ 77 ∷ 1 ∷ replicate 61 77) but heap (set hp 69 0)) (17 ∷ [])
     -- a page taken one word further than its objects reach
-    ∷ example (mem 2 1 ws sl 3 sz mk 7 nm pa lv ct nw ol 2 ow (set tk 0 7) hp) (18 ∷ [])
+    ∷ example (small but taken (set tk 0 7)) (18 ∷ [])
     -- an object that goes past what is taken: it is not met
-    ∷ example (mem 2 1 ws (set sl 8 65) 3 sz mk 7 nm pa lv ct nw ol 2 ow (set tk 1 6) hp) (18 ∷ [])
+    ∷ example (small but slots (set sl 8 65) but taken (set tk 1 6)) (18 ∷ [])
     -- a newest page of another region
-    ∷ example (mem 2 1 ws sl 3 sz mk 7 nm pa lv ct (set nw 2 1) ol 2 ow tk hp) (19 ∷ [])
+    ∷ example (small but newest (set nw 2 1)) (19 ∷ [])
     -- a newest page past those made
-    ∷ example (mem 2 1 ws sl 3 sz mk 7 nm pa lv ct (set nw 2 3) ol 2 (set ow 2 3) tk hp) (19 ∷ [])
+    ∷ example (small but newest (set nw 2 3) but owners (set ow 2 3)) (19 ∷ [])
     -- an oldest object of another region
-    ∷ example (mem 2 1 ws sl 3 sz mk 7 nm pa lv ct nw (set ol 2 1) 2 ow tk hp) (20 ∷ [])
+    ∷ example (small but oldest (set ol 2 1)) (20 ∷ [])
     -- an oldest object that is none
-    ∷ example (mem 2 1 ws sl 3 sz mk 7 nm pa lv ct nw (set ol 2 66) 2 ow tk hp) (20 ∷ [])
+    ∷ example (small but oldest (set ol 2 66)) (20 ∷ [])
     -- entries not in use may hold anything: other slots, marks, region entries, owners and taken words past the pages made, words past those taken
-    ∷ example (mem 2 1 ws (set (set sl 2 1) 16 5) 3 sz (set mk 2 9) 7 nm (set pa 1 0) (set lv 1 99) (set ct 1 5) nw ol 2 (set ow 2 1) (set tk 5 3) (set (set hp 6 1) 127 65)) []
+    ∷ example (small but slots (set (set sl 2 1) 16 5) but marks (set mk 2 9) but parents (set pa 1 0) but levels (set lv 1 99) but counts (set ct 1 5) but owners (set ow 2 1) but taken (set tk 5 3) but heap (set (set hp 6 1) 127 65)) []
     -- a region without newest page or oldest object entered
-    ∷ example (mem 2 1 ws sl 3 sz mk 7 nm pa lv ct (set nw 2 0) (set ol 2 0) 2 ow tk hp) []
+    ∷ example (small but newest (set nw 2 0) but oldest (set ol 2 0)) []
     -- a newest page or oldest object that is its own, whichever
-    ∷ example (mem 2 1 ws sl 3 sz mk 7 nm pa lv ct nw (set ol 2 68) 2 ow tk hp) []
+    ∷ example (small but oldest (set ol 2 68)) []
     -- names given and gone
-    ∷ example (mem 2 1 ws sl 3 sz mk 1000000 nm pa lv ct nw ol 2 ow tk hp) []
+    ∷ example (small but given 1000000) []
     -- a third page, free, whose taken words are not read
-    ∷ example (mem 2 1 ws sl 3 sz mk 7 nm pa lv ct nw ol 3 (set ow 2 0) tk (hp ++ replicate 64 99)) []
+    ∷ example (small but made 3 but owners (set ow 2 0) but heap (hp ++ replicate 64 99)) []
     -- a third page, held and taken to no word
-    ∷ example (mem 2 1 ws sl 3 sz mk 7 nm pa lv ct nw ol 3 (set ow 2 3) (set tk 2 0) (hp ++ replicate 64 99)) []
+    ∷ example (small but made 3 but owners (set ow 2 3) but taken (set tk 2 0) but heap (hp ++ replicate 64 99)) []
     ∷ []

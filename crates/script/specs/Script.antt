@@ -1,7 +1,7 @@
 -- What a line of a script says. A line is a list of bytes. Its words are a call's name, or its number in document 01 (The calls), and the
 -- arguments in document 01's order, written in decimal.
 -- Assumes nothing.
-use mathlib.Core.Bool.{Bool, false, not, _&&_, _||_}
+use mathlib.Core.Bool.{Bool, not, _&&_, _||_}
 use mathlib.Core.List.{List, [], _∷_, map}
 use Prim.Native.Nat.{ℕ, suc, _+_, _-_, _*_, min}
 use Prim.Native.Char.{code}
@@ -69,19 +69,28 @@ known v = ltb v noNumber
 
 -- ---- calls
 
--- The names in the order of document 01's numbers, with `pages` in the place of make, and how many arguments each takes; declare takes
--- any number of marks (document 01, The calls).
-abbrev pub calls : List (String × ℕ)
+-- The calls in the order of document 01's numbers, with `pages` in the place of make: the name, and the least and the most number of
+-- arguments (document 01, The calls; declare's are its marks, 64 at most on a line). A call added later is a row at the end.
+abbrev pub calls : List (String × ℕ × ℕ)
 calls =
-    ("pages", 1) ∷ ("declare", 0) ∷ ("new_region", 0) ∷ ("subregion", 1) ∷ ("push", 1) ∷ ("drop", 0) ∷ ("hand_back", 2) ∷ ("allocate", 3)
-    ∷ ("first", 2) ∷ ("copy", 2) ∷ ("fetch", 2) ∷ ("clear", 1) ∷ ("load", 3) ∷ ("set_pointer", 3) ∷ ("put", 3) ∷ ("get", 2)
-    ∷ ("view", 1) ∷ ("same", 2) ∷ ("about", 1) ∷ ("report", 1) ∷ ("totals", 0) ∷ ("audit", 0) ∷ ("delete", 1) ∷ []
+    ("pages", 1, 1) ∷ ("declare", 0, 64) ∷ ("new_region", 0, 0) ∷ ("subregion", 1, 1) ∷ ("push", 1, 1) ∷ ("drop", 0, 0) ∷ ("hand_back", 2, 2)
+    ∷ ("allocate", 3, 3) ∷ ("first", 2, 2) ∷ ("copy", 2, 2) ∷ ("fetch", 2, 2) ∷ ("clear", 1, 1) ∷ ("load", 3, 3) ∷ ("set_pointer", 3, 3)
+    ∷ ("put", 3, 3) ∷ ("get", 2, 2) ∷ ("view", 1, 1) ∷ ("same", 2, 2) ∷ ("about", 1, 1) ∷ ("report", 1, 1) ∷ ("totals", 0, 0) ∷ ("audit", 0, 0)
+    ∷ ("delete", 1, 1) ∷ []
+
+-- the number of the last call; the first after `pages` is 2
+abbrev pub lastCall : ℕ
+lastCall = length calls
 
 unfoldable pub names : List (List ℕ)
 names = map (λ c. bytes (c .0)) calls
 
-unfoldable pub counts : List ℕ
-counts = 0 ∷ map (λ c. c .1) calls
+-- by a call's number, 0 for none
+unfoldable pub least : List ℕ
+least = 0 ∷ map (λ c. c .1) calls
+
+unfoldable pub most : List ℕ
+most = 0 ∷ map (λ c. c .2) calls
 
 -- the place of a word in a list, counted from n on, or 0
 unfoldable pub placed : ℕ → List ℕ → List (List ℕ) → ℕ
@@ -90,14 +99,15 @@ placed n w (v ∷ vs) = pick (equal eqb w v) n (placed (suc n) w vs)
 
 -- the number of the call that a word names or numbers, 1 for `pages`, 0 for none
 unfoldable pub callOf : List ℕ → ℕ
-callOf w = pick (leb 2 (value w) && ltb (value w) 24) (value w) (placed 1 w names)
+callOf w = pick (leb 2 (value w) && leb (value w) lastCall) (value w) (placed 1 w names)
+
+-- call n takes k arguments
+unfoldable pub takes : ℕ → ℕ → Bool
+takes n k = leb (getD least n 0) k && leb k (getD most n 0)
 
 -- Call n may stand here with k arguments, a the first of them: `pages` with 257 at most while no store is made, any other call afterwards.
 unfoldable pub allowed : Bool → ℕ → ℕ → ℕ → Bool
-allowed made n k a =
-    pick (eqb n 0) false
-    (pick (eqb n 1) (not made && leb a 257 && eqb k 1)
-    (made && (eqb n 2 || eqb (getD counts n 0) k)))
+allowed made n k a = not (eqb n 0) && takes n k && pick (eqb n 1) (not made && leb a 257) made
 
 -- ---- lines
 
@@ -108,9 +118,9 @@ zeros = replicate 64 0
 unfoldable pub line : ℕ → List ℕ → Line
 line n vs = record { call = n; count = length vs; args = sets zeros 0 vs }
 
--- a line that is no call
+-- a line that is no call; no call will have this number
 unfoldable pub bad : Line
-bad = line 24 []
+bad = line 255 []
 
 -- the arguments have to be numbers, and no more than 64
 unfoldable pub given : ℕ → List ℕ → Line

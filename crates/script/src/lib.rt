@@ -2,17 +2,23 @@
 ghost use mathlib.Core.Path.{_≡_};
 ghost use mathlib.Core.List.{[], map};
 ghost use Prim.Native.Nat.{_+_};
-ghost use lib.ListN.{length, drop};
-ghost use Rattle.script.specs.Script.{blank, ofClass, front, tokens, value, placed, names, callOf, allowed, line, given, scanned};
+ghost use lib.ListN.{length, getD, drop};
+ghost use Rattle.script.specs.Script.{blank, ofClass, front, tokens, value, placed, names, least, most, callOf, takes, allowed, line, given, scanned};
 ghost use Rattle.script.specs.Found.{NextWord, LineAt};
 
-// A line: `call` is 0 where nothing stands on it, 1 for pages, 2 to 23 for a call of document 01, and 24 where it is none of these.
+// A line: `call` is 0 where nothing stands on it, 1 for pages, a call's number from 2 on, and 255 where it is none of these.
 // The arguments are the first `count` of `args`, and the others are 0.
 pub struct Line {
     pub call: u32,
     pub count: u32,
     pub args: [u32; 64],
 }
+
+// The mark for a line that is no call: no call will have this number.
+const NO_CALL: u32 = 255;
+
+// The number of the last call.
+const LAST_CALL: u64 = 23;
 
 // Where a word begins, and where it ends.
 struct Span {
@@ -147,7 +153,37 @@ fn call_of(w: &[u8]) -> u32
     if v < 2 {
         return named(w);
     }
-    if v < 24 { v as u32 } else { named(w) }
+    if v <= LAST_CALL { v as u32 } else { named(w) }
+}
+
+// The least number of arguments of call n.
+fn least(n: u32) -> u32
+    ensures { λ r. ⌜ r ≡ getD least n 0 ⌝ }
+{
+    cells::byte(
+        b"\x00\x01\x00\x00\x01\x01\x00\x02\x03\x02\x02\x02\x01\x03\x03\x03\x02\x01\x02\x01\x01\x00\x00\x01",
+        n as usize,
+    )
+}
+
+// The most: 64 for declare.
+fn most(n: u32) -> u32
+    ensures { λ r. ⌜ r ≡ getD most n 0 ⌝ }
+{
+    cells::byte(
+        b"\x00\x01\x40\x00\x01\x01\x00\x02\x03\x02\x02\x02\x01\x03\x03\x03\x02\x01\x02\x01\x01\x00\x00\x01",
+        n as usize,
+    )
+}
+
+// Whether call n takes k arguments.
+fn takes(n: u32, k: u32) -> bool
+    ensures { λ r. ⌜ r ≡ takes n k ⌝ }
+{
+    if k < least(n) {
+        return false;
+    }
+    k <= most(n)
 }
 
 // Whether call n may stand here with k arguments, the first of them a: pages once, and no call before it.
@@ -157,27 +193,16 @@ fn allowed(made: bool, n: u32, k: u32, a: u32) -> bool
     if n == 0 {
         return false;
     }
+    if !takes(n, k) {
+        return false;
+    }
     if n == 1 {
         if made {
             return false;
         }
-        if a <= 257 {
-            return k == 1;
-        }
-        return false;
+        return a <= 257;
     }
-    if made {
-        if n == 2 {
-            return true;
-        }
-        // how many each call takes, by its number
-        let takes = cells::byte(
-            b"\x00\x01\x00\x00\x01\x01\x00\x02\x03\x02\x02\x02\x01\x03\x03\x03\x02\x01\x02\x01\x01\x00\x00\x01",
-            n as usize,
-        );
-        return takes == k;
-    }
-    false
+    made
 }
 
 // A line with no arguments.
@@ -211,13 +236,13 @@ fn arguments(s: &[u8], at: usize, n: u32) -> Line
         }
         let v = number(&s[from..to]);
         if 4294967296 <= v {
-            return bare(24);
+            return bare(NO_CALL);
         }
         cells::store(&mut args, k as usize, v as u32);
         k += 1;
         i = to;
     }
-    bare(24)
+    bare(NO_CALL)
 }
 
 // What a line says, where `made` tells whether pages came before it.
@@ -236,6 +261,6 @@ pub fn scan(s: &[u8], made: bool) -> Line
     if allowed(made, l.call, l.count, args[0]) {
         l
     } else {
-        bare(24)
+        bare(NO_CALL)
     }
 }

@@ -3,22 +3,30 @@
 use mathlib.Core.Path.{_≡_}
 use mathlib.Core.Bool.{Bool, true, false, _&&_}
 use mathlib.Core.List.{List, [], _∷_}
-use Prim.Native.Nat.{ℕ, _-_}
+use Prim.Native.Nat.{ℕ, _+_, _-_}
 use lib.Dec.{leb}
-use lib.ListN.{getD}
+use lib.ListN.{length, getD}
 use Rattle.model.specs.Model.{Call, declare, newRegion, subregion, push, dropFrame, handBack, allocate, first, copy, fetch, clear, load, setPointer, put, get, view, same, about, report, totals, audit, delete, refusedBy}
 use Rattle.state.specs.declared.Reply.{Reply}
 use Rattle.outcomes.specs.Store.{Store}
 use Rattle.outcomes.specs.Outcome.{Outcome, answerOf}
 
--- calls 2 to 23 in document 01's order, with their arguments from the left; ms are declare's marks
-abbrev pub numbered : ℕ → ℕ → ℕ → List ℕ → List Call
-numbered a b c ms =
-    declare ms ∷ newRegion ∷ subregion a ∷ push a ∷ dropFrame ∷ handBack a b ∷ allocate a b c ∷ first a b ∷ copy a b ∷ fetch a b ∷ clear a ∷ load a b c ∷ setPointer a b c ∷ put a b c ∷ get a b ∷ view a ∷ same a b ∷ about a ∷ report a ∷ totals ∷ audit ∷ delete a ∷ []
+-- the calls from number 2 on, in document 01's order, with their arguments from the left: four numbers, and a list, declare's marks
+abbrev pub numbered : ℕ → ℕ → ℕ → ℕ → List ℕ → List Call
+numbered a b c d list =
+    declare list ∷ newRegion ∷ subregion a ∷ push a ∷ dropFrame ∷ handBack a b ∷ allocate a b c ∷ first a b ∷ copy a b ∷ fetch a b ∷ clear a ∷ load a b c ∷ setPointer a b c ∷ put a b c ∷ get a b ∷ view a ∷ same a b ∷ about a ∷ report a ∷ totals ∷ audit ∷ delete a ∷ []
+
+-- the number of the last of them
+abbrev pub lastCall : ℕ
+lastCall = length (numbered 0 0 0 0 []) + 1
+
+-- n is the number of one of them
+abbrev pub isCall : ℕ → Bool
+isCall n = leb 2 n && leb n lastCall
 
 -- the call numbered n
-unfoldable pub decoded : ℕ → ℕ → ℕ → ℕ → List ℕ → Call
-decoded n a b c ms = getD (numbered a b c ms) (n - 2) totals
+unfoldable pub decoded : ℕ → ℕ → ℕ → ℕ → ℕ → List ℕ → Call
+decoded n a b c d list = getD (numbered a b c d list) (n - 2) totals
 
 -- the outcome of that call; its reply has no place for view's part, which is some list here and [] for every other call
 abbrev pub OutcomeOf : Call → Store → Reply → Store → Type 0
@@ -29,5 +37,5 @@ abbrev pub DispatchedBy : Bool → Call → Store → Reply → Store → Type 0
 DispatchedBy true c S r T = OutcomeOf c S r T
 DispatchedBy false c S r T = (answerOf r [] ≡ refusedBy 24) × (T ≡ S)
 
-unfoldable pub Dispatched : ℕ → ℕ → ℕ → ℕ → List ℕ → Store → Reply → Store → Type 0
-Dispatched n a b c ms S r T = DispatchedBy (leb 2 n && leb n 23) (decoded n a b c ms) S r T
+unfoldable pub Dispatched : ℕ → ℕ → ℕ → ℕ → ℕ → List ℕ → Store → Reply → Store → Type 0
+Dispatched n a b c d list S r T = DispatchedBy (isCall n) (decoded n a b c d list) S r T

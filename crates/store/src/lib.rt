@@ -29,13 +29,22 @@ pub use state::State;
 ghost use Rattle.outcomes.specs.Outcome.{store};
 ghost use Rattle.store.specs.Dispatch.{Dispatched};
 
-// The call numbered `number` in document 01, 2 to 23, with its arguments from the left; what it does not take is ignored, and only declare takes marks.
+// The call numbered `number`, as document 01 numbers its calls, with its arguments from the left; what it does not take is ignored. The list is declare's marks.
 // A number that is no call's is answered 24. View's part is had from `view`.
-pub fn call(s: State, heap: &mut [u32], number: u32, a: u32, b: u32, c: u32, marks: &[u32]) -> Done
-    ensures { λ r. ⌜ Dispatched number a b c (now (marks .entry)) (store s (now (heap .entry))) (r .reply) (store (r .state) (now (heap .exit))) ⌝ }
+pub fn call(
+    s: State,
+    heap: &mut [u32],
+    number: u32,
+    a: u32,
+    b: u32,
+    c: u32,
+    d: u32,
+    list: &[u32],
+) -> Done
+    ensures { λ r. ⌜ Dispatched number a b c d (now (list .entry)) (store s (now (heap .entry))) (r .reply) (store (r .state) (now (heap .exit))) ⌝ }
 {
     match number {
-        2 => declare(s, heap, marks),
+        2 => declare(s, heap, list),
         3 => new_region(s, heap),
         4 => subregion(s, heap, a),
         5 => push(s, heap, a),

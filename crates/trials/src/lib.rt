@@ -53,7 +53,7 @@ pub const DELETE: u32 = 23;
 // The call with that number and these arguments.
 fn called(s: State, heap: &mut [u32], number: u32, a: u32, b: u32, c: u32) -> Done {
     let none = [0u32; 0];
-    store::call(s, heap, number, a, b, c, &none)
+    store::call(s, heap, number, a, b, c, 0, &none)
 }
 
 // A call made n times, and once for 0, each time on what the one before left; the last one's reply.

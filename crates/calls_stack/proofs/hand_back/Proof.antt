@@ -1,6 +1,6 @@
-use mathlib.Core.Path.{refl, sym, ap, _∙_}
+use mathlib.Core.Path.{_≡_, refl, sym, ap, _∙_}
 use borrow.Author.Needs.{needs}
-use Rattle.frames.specs.Frames.{topFrame, slotAt, putSlot, popped}
+use Rattle.frames.specs.Frames.{topIn, topFrame, slotAt, putSlot, popped}
 use Rattle.regions.specs.Regions.{withCounts}
 use Rattle.outcomes.specs.Store.{slot}
 use Rattle.outcomes.specs.Outcome.{Accepted, fillSlot}
@@ -11,6 +11,12 @@ use Rattle.calls_stack.proofs.hand_back.Tie as tie
 
 returns : tie.Need-returns
 returns c = by-refusal _ _ _ _ _ (hand-tests _ _ _ ∙ sym (c .before .before .beneath-refusal .ensures)) (c .before .if1 .taken) (c .refused .ensures) refl
+
+-- the frame written is the one that was beneath the top
+beneath : (c : tie.After-top2)
+    → let a = c .before .before .before .before .before .before .before .before .before .before .before .before .before .before .before .before .before .before .before .before .before .before .before .before .before .before .before .before .before .before .args in
+    c .top2 .result ≡ topIn (topIn (a .s .frames .standing))
+beneath c = c .top2 .ensures ∙ ap topIn (c .before .before .before .top .ensures)
 
 returns-2 : tie.Need-returns-2
 unfolding Accepted topFrame popped withCounts slot slotAt fillSlot putSlot
@@ -25,7 +31,7 @@ returns-2 c =
     let a = i .before .before .before .before .before .before .args in
     by-effect _ _ _ _ (hand-tests _ _ _ ∙ sym (i .before .beneath-refusal .ensures) ∙ i .if1 .left) (
       c .gives .ensures ∙ rw (t .top .ensures),
-      rw (w .put-slot .ensures, w .before .top2 .ensures, t .top .ensures, k .counted-after .ensures, v .top-slot .ensures)
+      rw (w .put-slot .ensures, beneath (w .before), t .top .ensures, k .counted-after .ensures, v .top-slot .ensures)
           (ap (λ T. fillSlot T (a .beneath) (slotAt (a .s .frames) (topFrame (a .s .frames)) (a .slot))) (pop-is _ _ (z .counts-shaped .ensures) (u .uncount-top .ensures))),
     )
 

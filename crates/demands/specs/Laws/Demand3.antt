@@ -3,6 +3,7 @@
 use mathlib.Core.Path.{refl, sym, ap, _∙_}
 use mathlib.Core.List.{[], _∷_}
 use Prim.Native.Nat.{ℕ, _/_, _≤_, _<_}
+use native.Mathlib.Omega.{arith}
 use lib.Dec.{ltb}
 use lib.ListN.{length, replicate}
 use borrow.Author.Tests.{ltb-true, ltb-false}
@@ -21,9 +22,10 @@ use Rattle.audited.specs.Rebuild.{places, rebuilt}
 use Rattle.refinement.specs.Laws.Fresh.{make-pages}
 use Rattle.audited.specs.Laws.Audited.{audited}
 use Rattle.histories.specs.Laws.Tells.{Tells}
+use Rattle.histories.specs.Laws.Pointers.{outside-is}
 use Rattle.audited.specs.Laws.Good.{lists, lists-pages, audited-good}
 use Rattle.demands.specs.Told.{history}
-use Rattle.demands.specs.Demands.{RunsExist, Start, afterMake, afterAudit, Demand3, StaysSound, StaysShown, StartsAgree}
+use Rattle.demands.specs.Demands.{RunsExist, Start, afterMake, afterAudit, Demand3, StaysSound, CountsFit, StaysShown, StartsAgree}
 use Rattle.demands.specs.Laws.Opening.{blank-opens}
 use Rattle.histories.specs.Laws.TellsPages.{TellsPages}
 use Rattle.demands.specs.Laws.Steps.{Told, run-told, begins}
@@ -65,6 +67,15 @@ stays-sound S h s es T U a r o =
     let b = start-told S h s in
     let k = run-told (b .2) r .1 in
     audit-exact T a U o .1 .1 (audited T (k .good .valid) (k .good .represents) (k .good .sized))
+
+pub counts-fit : CountsFit
+unfolding CountsFit Demand3
+counts-fit S h s es T r q l =
+    let k = run-told (start-told S h s .2) r .1 in
+    let g = k .good in
+    let few = outside-is T (k .tells) (g .valid) (g .represents .onFrames) (g .represents .onObjects) q in
+    let most = outside-bound _ (g .valid) (g .paged) (g .few) q in
+    (omega (arith, few, most), omega (arith, few, most, demand3 S h s es T r .counts q l))
 
 pub stays-shown : StaysShown
 unfolding StaysShown

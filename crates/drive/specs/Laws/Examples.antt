@@ -3,8 +3,8 @@
 use mathlib.Core.Path.{_≡_, refl}
 use mathlib.Core.List.{[], _∷_, _++_}
 use Rattle.model.specs.Model.{push, setPointer}
-use Rattle.store.specs.Dispatch.{decoded}
-use Rattle.script.specs.Script.{bytes, blank, inWord, tokens, value, names, counts, placed, callOf, allowed, zeros, line, bad, given, said, scanned}
+use Rattle.store.specs.Dispatch.{lastCall as lastNumber, decoded}
+use Rattle.script.specs.Script.{bytes, blank, inWord, tokens, value, lastCall, names, least, most, placed, callOf, takes, allowed, zeros, line, bad, given, said, scanned}
 use Rattle.drive.specs.Scripted.{linesOf, callsOf, scripted}
 
 -- a newline ends a line, and the last line may lack it
@@ -14,5 +14,9 @@ newlines = (refl, refl, refl)
 
 -- a call by name, a line that is no call, a comment, `pages` again, a call by number
 calls : scripted (bytes "push 1" ++ (10 ∷ bytes "pull 1") ++ (10 ∷ bytes "# push 1") ++ (10 ∷ bytes "pages 1") ++ (10 ∷ bytes "14 0 0 1")) ≡ push 1 ∷ setPointer 0 0 1 ∷ []
-unfolding scripted linesOf callsOf decoded bytes blank inWord tokens value names counts placed callOf allowed zeros line bad given said scanned
+unfolding scripted linesOf callsOf decoded bytes blank inWord tokens value names least most placed callOf takes allowed zeros line bad given said scanned
 calls = refl
+
+-- the scanner's table ends at the last number that is dispatched
+same-last : lastCall ≡ lastNumber
+same-last = refl

@@ -1,10 +1,10 @@
-use Prim.Native.Nat.{_-_, _≤_}
+use Prim.Native.Nat.{_-_, _≤_, _<_}
 use mathlib.Core.Path.{_≡_, sym, _∙_}
 use mathlib.Core.List.{_∷_, map}
 use borrow.Author.Needs.{needs}
 use native.Mathlib.Omega.{arith}
 use lib.ListN.{length, drop, length-set}
-use Rattle.script.specs.Script.{tokens, value, zeros, line, bad, given}
+use Rattle.script.specs.Script.{noNumber, tokens, value, zeros, line, bad, given}
 use Rattle.script.specs.Laws.Lines.{givenFrom, given-all, given-next, given-none, given-odd, given-full}
 use Rattle.script.proofs.arguments.Statement.{statement}
 use Rattle.script.proofs.arguments.Tie as tie
@@ -38,14 +38,21 @@ next c =
 
 returns-2 : tie.Need-returns-2 Inv-loop μ-loop
 unfolding line bad
-returns-2 c = c .bare .ensures ∙ given-odd _ _ _ _ _ (c .before .if2 .taken) ∙ next (c .before .before)
+returns-2 c = c .bare .ensures ∙ given-odd _ _ _ _ _ (omega (arith, c .before .if2 .taken)) ∙ next (c .before .before)
+
+-- a number that passes is one below 2^32
+small : (c : tie.Else2 Inv-loop μ-loop) → c .before .number .result < noNumber
+small c = c .if2 .left
+
+cast-store-2 : tie.Need-cast-store-2 Inv-loop μ-loop
+cast-store-2 c = search (needs, small (c .before))
 
 loop-again : tie.Need-loop-again Inv-loop μ-loop
 loop-again c =
     let w = c .before in
     let i = w .before .before in
     let l = i .before .before .before .before .before .before in
-    (omega arith, rw (w .store .ensures) (simp length-set (l .loop .inv .1)), rw (w .store .ensures) (sym (given-next _ _ _ _ _ (i .if2 .left)) ∙ next (i .before)))
+    (omega arith, rw (w .store .ensures) (simp length-set (l .loop .inv .1)), rw (w .store .ensures) (sym (given-next _ _ _ _ _ (small i)) ∙ next (i .before)))
 
 returns-3 : tie.Need-returns-3 Inv-loop μ-loop
 unfolding line bad
@@ -71,7 +78,7 @@ arguments-spec =
     returns-2
     (λ c. search needs)
     (λ c. search needs)
-    (λ c. search needs)
+    cast-store-2
     (λ c κs. search needs)
     (λ c. search needs)
     (λ c. search needs)

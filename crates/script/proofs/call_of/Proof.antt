@@ -1,20 +1,17 @@
 use borrow.Author.Needs.{needs}
-use borrow.Author.Tests.{le-leb, le-ltb, lt-leb, lt-ltb}
-use Rattle.script.specs.Script.{callOf}
+use mathlib.Core.Path.{_∙_}
+use Rattle.script.specs.Laws.Lines.{numbered, small-named, great-named}
 use Rattle.script.proofs.call_of.Statement.{statement}
 use Rattle.script.proofs.call_of.Tie as tie
 
 returns : tie.Need-returns
-unfolding callOf
-returns c = rw (← c .before .before .number .ensures, ← c .named .ensures) (simp (lt-leb _ _ (c .before .if1 .taken)))
+returns c = c .named .ensures ∙ small-named _ _ (c .before .before .number .ensures) (c .before .if1 .taken)
 
 returns-2 : tie.Need-returns-2
-unfolding callOf
-returns-2 c = rw (← c .before .before .number .ensures) (simp (le-leb _ _ (c .before .if1 .left), lt-ltb _ _ (c .if2 .taken)))
+returns-2 c = numbered _ _ (c .before .before .number .ensures) (c .before .if1 .left) (c .if2 .taken)
 
 returns-3 : tie.Need-returns-3
-unfolding callOf
-returns-3 c = rw (← c .before .before .before .number .ensures, ← c .named2 .ensures) (simp (le-leb _ _ (c .before .before .if1 .left), le-ltb _ _ (c .before .if2 .left)))
+returns-3 c = c .named2 .ensures ∙ great-named _ _ (c .before .before .before .number .ensures) (c .before .if2 .left)
 
 pub call-of-spec : {M : Type 1} → statement M
 call-of-spec = tie.close (tie.spec (λ c κs. search needs) (λ c κs. search needs) returns (λ c. search needs) (λ c κs. search needs) returns-2 returns-3)

@@ -6,16 +6,17 @@ use Rattle.script.specs.Laws.Lines.{placed-below}
 use Rattle.script.proofs.named.Statement.{statement}
 use Rattle.script.proofs.named.Tie as tie
 
-cast-result : tie.Need-cast-result
+-- the words of the byte string are the names of the table, in order
+in-order : (c : tie.After-place-of) → c .place-of .result ≡ placed 1 (c .before .before .before .args .w .now) names
 unfolding bytes blank inWord tokens names
-cast-result c =
-    let w = c .before .before .before .args .w .now in
-    let e : c .place-of .result ≡ placed 1 w names = c .place-of .ensures in
-    omega (arith, placed-below 1 w names)
+in-order c = c .place-of .ensures
+
+cast-result : tie.Need-cast-result
+unfolding bytes names
+cast-result c = omega (arith, in-order c, placed-below 1 (c .before .before .before .args .w .now) names)
 
 returns : tie.Need-returns
-unfolding bytes blank inWord tokens names
-returns c = c .place-of .ensures
+returns c = in-order c
 
 pub named-spec : {M : Type 1} → statement M
 named-spec = tie.close (tie.spec (λ c. search needs) (λ c κs. search needs) cast-result returns)

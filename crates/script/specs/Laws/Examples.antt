@@ -3,13 +3,13 @@
 use mathlib.Core.Path.{_≡_, refl}
 use mathlib.Core.Bool.{Bool, true, false, _&&_}
 use mathlib.Core.List.{List, [], _∷_, _++_}
-use Prim.Native.Nat.{ℕ}
+use Prim.Native.Nat.{ℕ, _+_, _-_}
 use Prim.Native.String.{String}
 use lib.Dec.{eqb}
 use lib.ListN.{getD, replicate}
 use Rattle.lists.specs.Lists.{every, joined, from, upTo, equal}
 use Rattle.script.specs.declared.Line.{Line}
-use Rattle.script.specs.Script.{bytes, blank, inWord, tokens, value, names, counts, placed, callOf, allowed, zeros, line, bad, given, said, scanned}
+use Rattle.script.specs.Script.{bytes, blank, inWord, tokens, value, lastCall, names, least, most, placed, callOf, takes, allowed, zeros, line, bad, given, said, scanned}
 
 -- a line, whether a store is made before it, and the call and arguments that it says
 record Row : Type 0 where
@@ -38,21 +38,25 @@ sevens n k = getD ([] ∷ names) n [] ++ joined (λ i. bytes " 7") (upTo k)
 table : List Row
 table =
     says "" 0 [] ∷ says " \t# push 2" 0 [] ∷ opens "# pages 2" 0 []
-    ∷ opens "pages 2" 1 (2 ∷ []) ∷ opens "pages 257" 1 (257 ∷ []) ∷ opens "pages 258" 24 [] ∷ opens "pages" 24 [] ∷ says "pages 2" 24 []
-    ∷ opens "push 2" 24 [] ∷ says "push 2" 5 (2 ∷ []) ∷ says "push" 24 [] ∷ says "push 2 2" 24 [] ∷ says "pushed 2" 24 [] ∷ says "push 2x" 24 []
+    ∷ opens "pages 2" 1 (2 ∷ []) ∷ opens "pages 257" 1 (257 ∷ []) ∷ opens "pages 258" 255 [] ∷ opens "pages" 255 [] ∷ says "pages 2" 255 []
+    ∷ opens "push 2" 255 [] ∷ says "push 2" 5 (2 ∷ []) ∷ says "push" 255 [] ∷ says "push 2 2" 255 [] ∷ says "pushed 2" 255 [] ∷ says "push 2x" 255 []
     ∷ says "set_pointer 0 0 1" 14 (0 ∷ 0 ∷ 1 ∷ []) ∷ says "14 0 0 1" 14 (0 ∷ 0 ∷ 1 ∷ []) ∷ says "\tset_pointer  0\t0 01#back\r" 14 (0 ∷ 0 ∷ 1 ∷ [])
-    ∷ says "put 0 1 4294967295" 15 (0 ∷ 1 ∷ 4294967295 ∷ []) ∷ says "put 0 1 4294967296" 24 [] ∷ says "put 0 1 42949672950" 24 []
-    ∷ says "1 2" 24 [] ∷ says "24 2" 24 [] ∷ says "23 2" 23 (2 ∷ []) ∷ says "declare" 2 [] ∷ says "declare 1 0" 2 (1 ∷ 0 ∷ [])
-    ∷ record { text = sevens 2 64; made = true; call = 2; args = replicate 64 7 } ∷ record { text = sevens 2 65; made = true; call = 24; args = [] } ∷ []
+    ∷ says "put 0 1 4294967295" 15 (0 ∷ 1 ∷ 4294967295 ∷ []) ∷ says "put 0 1 4294967296" 255 [] ∷ says "put 0 1 42949672950" 255 []
+    ∷ says "1 2" 255 [] ∷ says "24 2" 255 [] ∷ says "23 2" 23 (2 ∷ []) ∷ says "declare" 2 [] ∷ says "declare 1 0" 2 (1 ∷ 0 ∷ [])
+    ∷ record { text = sevens 2 64; made = true; call = 2; args = replicate 64 7 } ∷ record { text = sevens 2 65; made = true; call = 255; args = [] } ∷ []
 
 all-right : every right table ≡ true
-unfolding right table alike says opens sevens bytes blank inWord tokens value names counts placed callOf allowed zeros line bad given said scanned
+unfolding right table alike says opens sevens bytes blank inWord tokens value names least most placed callOf takes allowed zeros line bad given said scanned
 all-right = refl
 
--- each call by its name, with as many arguments as it takes
-byName : ℕ → Row
-byName n = let k = getD counts n 0 in record { text = sevens n k; made = true; call = n; args = replicate k 7 }
+-- call n by its name with k arguments
+byName : ℕ → ℕ → Row
+byName n k = record { text = sevens n k; made = true; call = n; args = replicate k 7 }
 
-names-right : every (λ n. right (byName n)) (from 2 22) ≡ true
-unfolding right byName sevens alike bytes blank inWord tokens value names counts placed callOf allowed zeros line bad given said scanned
+tooMany : ℕ → Row
+tooMany n = record { text = sevens n (getD most n 0 + 1); made = true; call = 255; args = [] }
+
+-- each call with the least and the most number of arguments that it takes, and with one more
+names-right : every (λ n. right (byName n (getD least n 0)) && right (byName n (getD most n 0)) && right (tooMany n)) (from 2 (lastCall - 1)) ≡ true
+unfolding right byName tooMany sevens alike bytes blank inWord tokens value names least most placed callOf takes allowed zeros line bad given said scanned
 names-right = refl

@@ -16,7 +16,7 @@ use Rattle.lists.specs.Laws.Every.{equal-is, equal-self}
 use Rattle.lists.specs.Laws.Tests.{by-test, pick-same}
 use Rattle.lists.specs.Laws.Sets.{getD-sets-out}
 use Rattle.script.specs.declared.Line.{Line}
-use Rattle.script.specs.Script.{value, noNumber, known, placed, callOf, allowed, line, zeros, bad, given, said}
+use Rattle.script.specs.Script.{value, noNumber, known, lastCall, names, placed, callOf, allowed, line, zeros, bad, given, said}
 
 -- ---- names
 
@@ -36,6 +36,20 @@ placed-below n w (v ∷ vs) = go (equal eqb w v) (placed-below (suc n) w vs)
     go : (t : Bool) → placed (suc n) w vs ≤ suc n + length vs → pick t n (placed (suc n) w vs) ≤ n + suc (length vs)
     go true h = omega arith
     go false h = omega arith
+
+-- a word is a call's number, or else at most its name: the number that it writes is too small, or too great
+module _ (w : List ℕ) (v : ℕ) (e : v ≡ value w) where
+  pub numbered : 2 ≤ v → v ≤ lastCall → v ≡ callOf w
+  unfolding callOf
+  numbered h k = rw (← e, le-leb 2 v h, le-leb v lastCall k)
+
+  pub small-named : v < 2 → placed 1 w names ≡ callOf w
+  unfolding callOf
+  small-named h = rw (← e, lt-leb 2 v h)
+
+  pub great-named : lastCall < v → placed 1 w names ≡ callOf w
+  unfolding callOf
+  great-named h = rw (← e, lt-leb v lastCall h, and-false (leb 2 v))
 
 -- ---- arguments
 
