@@ -1,4 +1,4 @@
-// Rules that document 01 states and its cases leave out, on the store: the last seven rows of `further` in the model.
+// Rules that document 01 states and its cases leave out, on the store: the last eight rows of `further` in the model.
 // For each, make with its line, and then the row's calls, with the lines that the row prints.
 use trials::ABOUT;
 use trials::ALLOCATE;
@@ -44,6 +44,31 @@ fn drops() {
             [DROP, 0, 0, 0],
             [TOTALS, 0, 0, 0],
             [DROP, 0, 0, 0],
+            [TOTALS, 0, 0, 0],
+        ],
+    );
+}
+
+// Three objects on each of two pages leave 13 words on both: an object that takes 13 fits the newest page once, and the room on the older one is lost. Row `lostRoom`.
+fn lost_room() {
+    let mut heap = [0u32; 128];
+    let s = with_kind(&mut heap, &[0u32; 16]);
+    let d = store::declare(s, &heap, &[0u32; 12]);
+    plays(
+        d.state,
+        &mut heap,
+        4,
+        11,
+        &[
+            [PUSH, 1, 0, 0],
+            [ALLOCATE, 0, 1, 1],
+            [ALLOCATE, 0, 1, 1],
+            [ALLOCATE, 0, 1, 1],
+            [ALLOCATE, 0, 1, 1],
+            [ALLOCATE, 0, 1, 1],
+            [ALLOCATE, 0, 1, 1],
+            [ALLOCATE, 0, 1, 2],
+            [ALLOCATE, 0, 1, 2],
             [TOTALS, 0, 0, 0],
         ],
     );
@@ -225,6 +250,7 @@ fn slots() {
 
 fn main() {
     drops();
+    lost_room();
     levels();
     outgoing();
     again();

@@ -46,6 +46,15 @@ lastDrops = record {
   prints = line 8 0 1 0 0 0 ∷ line 9 0 1 1 1 0 ∷ line 10 0 0 0 0 0 ∷ line 11 0 1 1 0 0 ∷ [];
 }
 
+-- three objects on each of two pages leave 13 words on both: an object that takes 13 fits the newest page once, and the room on the older one is lost
+abbrev pub lostRoom : Row
+lostRoom = record {
+  lent = 2 * 64;
+  calls = declare (replicate 16 0) ∷ declare (replicate 12 0) ∷ push 1 ∷ replicate 6 (allocate 0 1 1) ++ (allocate 0 1 2 ∷ allocate 0 1 2 ∷ totals ∷ []);
+  skip = 10;
+  prints = line 11 0 0 0 0 0 ∷ line 12 13 0 0 0 0 ∷ line 13 0 0 1 1 0 ∷ [];
+}
+
 -- 16 levels, and one more
 abbrev pub levels : Row
 levels = record {
@@ -117,4 +126,4 @@ slotRules = record {
 
 abbrev pub further : List Row
 further = heap0 ∷ heap16384 ∷ heap16448 ∷ threeFit ∷ push9 ∷ regions65
-    ∷ lastDrops ∷ levels ∷ outgoing ∷ again ∷ handed ∷ wordRules ∷ slotRules ∷ []
+    ∷ lastDrops ∷ lostRoom ∷ levels ∷ outgoing ∷ again ∷ handed ∷ wordRules ∷ slotRules ∷ []
