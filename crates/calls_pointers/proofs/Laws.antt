@@ -27,14 +27,14 @@ use Rattle.outcomes.specs.Outcome.{Outcome, Accepted, refusal, checks, noWord, 
 use Rattle.outcomes.specs.Laws.Steps.{reason-append, by-effect}
 use Rattle.checks.specs.Checks.{firstRefusal, wordTests}
 use Rattle.checks.specs.Laws.Tests.{top, two-slots, else-next}
-use Rattle.checks.specs.Laws.Words.{held, object, mark, tested, word-read}
+use Rattle.checks.specs.Laws.Words.{inSlot, object, mark, tested, word-read}
 use Rattle.calls_pointers.specs.Pointers.{pointerRefusal, setRefusal, countedTag, tagLeft, tagEntered}
 
 else-else : (a b c : ℕ) → firstRefusal (firstRefusal a b) c ≡ firstRefusal a (firstRefusal b c)
 else-else a b c = by-test (eqb a 0) (λ e. rw e) (λ e. rw (e, e))
 
 module _ (S : Store) (s : ℕ) where
-  pub load-tests : (w t : ℕ) → refusal S (load s w t) ≡ firstRefusal (reason (top S s t)) (pointerRefusal ((kinds S) .declared) ((kinds S) .sizes) ((kinds S) .marks) (object S s) (held S s) w)
+  pub load-tests : (w t : ℕ) → refusal S (load s w t) ≡ firstRefusal (reason (top S s t)) (pointerRefusal ((kinds S) .declared) ((kinds S) .sizes) ((kinds S) .marks) (object S s) (inSlot S s) w)
   unfolding refusal checks
   load-tests w t = two-slots S (eqb (slot S s) 0 yields 14 ∷ noWord S s w yields 15 ∷ isData S s w yields 16 ∷ []) s t ∙ ap (firstRefusal (reason (top S s t))) (tested S s (λ b. b) w)
 
@@ -43,17 +43,17 @@ module _ (S : Store) (s : ℕ) where
   set-tests w v = reason-append (checks S (load s w v)) (breaks S (slot S s) w (slot S v) yields 17 ∷ []) refl
 
   -- the mark's rule by the parts that it reads
-  breaks-in : (w x : ℕ) → breaks S (held S s) w x ≡ breaksIn ((regions S) .names) ((regions S) .parents) (mark S s w) (ownerIn ((pages S) .owners) (held S s)) x (ownerIn ((pages S) .owners) x)
+  breaks-in : (w x : ℕ) → breaks S (inSlot S s) w x ≡ breaksIn ((regions S) .names) ((regions S) .parents) (mark S s w) (ownerIn ((pages S) .owners) (inSlot S s)) x (ownerIn ((pages S) .owners) x)
   unfolding breaks ownerOf markOf markAt breaksIn nameOf parentAt
-  breaks-in w x = rw (object-header (S .heap) (held S s))
+  breaks-in w x = rw (object-header (S .heap) (inSlot S s))
 
 -- set pointer's tests by the parts that they read
 pub set-parts : (S : Store) (s w v : ℕ) → refusal S (setPointer s w v)
-    ≡ firstRefusal (reason (top S s v)) (setRefusal ((kinds S) .declared) ((kinds S) .sizes) ((kinds S) .marks) ((regions S) .names) ((regions S) .parents) ((pages S) .owners) (object S s) (held S s) w (held S v))
+    ≡ firstRefusal (reason (top S s v)) (setRefusal ((kinds S) .declared) ((kinds S) .sizes) ((kinds S) .marks) ((regions S) .names) ((regions S) .parents) ((pages S) .owners) (object S s) (inSlot S s) w (inSlot S v))
 unfolding slot slotAt topFrame
 set-parts S s w v =
-    set-tests S s w v ∙ ap₂ (λ a b. firstRefusal a (reason (b yields 17 ∷ []))) (load-tests S s w v) (breaks-in S s w (held S v))
-    ∙ else-else (reason (top S s v)) (pointerRefusal ((kinds S) .declared) ((kinds S) .sizes) ((kinds S) .marks) (object S s) (held S s) w) _
+    set-tests S s w v ∙ ap₂ (λ a b. firstRefusal a (reason (b yields 17 ∷ []))) (load-tests S s w v) (breaks-in S s w (inSlot S v))
+    ∙ else-else (reason (top S s v)) (pointerRefusal ((kinds S) .declared) ((kinds S) .sizes) ((kinds S) .marks) (object S s) (inSlot S s) w) _
 
 set-read : (declared : ℕ) (sizes marks names parents owners heap : List ℕ) (v w x : ℕ) → setRefusal declared sizes marks names parents owners (objectOf heap v) v w x ≡ 0
     → wordIn (objectOf heap v) w ≡ wordAt heap v w
@@ -98,7 +98,7 @@ module _ (S : Store) (s w : ℕ) where
       rw (d, c, a, b, read, object-header (S .heap) v, set-recount (regions S) fits m h (ownerIn owners (wordAt (S .heap) v w)) (ownerIn owners x))
 
   -- v and o are what functions gave: what the slot holds, and the object that it leads to
-  module _ (v : ℕ) (o : List ℕ) (led : v ≡ held S s) (read : o ≡ objectOf (S .heap) v) where
+  module _ (v : ℕ) (o : List ℕ) (led : v ≡ inSlot S s) (read : o ≡ objectOf (S .heap) v) where
     -- so are t and g, for the tests of the slots, which accept, and of the word
     module _ (u t g : ℕ) (first : t ≡ reason (top S s u)) (passed : t ≡ 0) (asked : g ≡ pointerRefusal ((kinds S) .declared) ((kinds S) .sizes) marks o v w) where
       pub load-second : refusal S (load s w u) ≡ g
@@ -111,7 +111,7 @@ module _ (S : Store) (s w : ℕ) where
           by-effect (load s w u) S a T (load-second ∙ z) (p, h ∙ rw (e, read, word-read ((kinds S) .declared) ((kinds S) .sizes) (S .heap) v w _ q, led))
 
     -- and x, what slot u holds
-    module _ (u x t g : ℕ) (valued : x ≡ held S u) (first : t ≡ reason (top S s u)) (passed : t ≡ 0)
+    module _ (u x t g : ℕ) (valued : x ≡ inSlot S u) (first : t ≡ reason (top S s u)) (passed : t ≡ 0)
         (asked : g ≡ setRefusal ((kinds S) .declared) ((kinds S) .sizes) marks ((regions S) .names) ((regions S) .parents) owners o v w x) where
       pub set-second : refusal S (setPointer s w u) ≡ g
       set-second = set-parts S s w u ∙ else-next (reason (top S s u)) t _ first passed ∙ sym (asked ∙ rw (read, led, valued))

@@ -18,11 +18,11 @@ use Rattle.outcomes.specs.Outcome.{Outcome, Accepted, refusal, checks, noWord, 
 use Rattle.outcomes.specs.Laws.Steps.{by-effect}
 use Rattle.checks.specs.Checks.{firstRefusal}
 use Rattle.checks.specs.Laws.Tests.{top, one-slot, else-next}
-use Rattle.checks.specs.Laws.Words.{held, object, tested, word-read}
+use Rattle.checks.specs.Laws.Words.{inSlot, object, tested, word-read}
 use Rattle.calls_words.specs.Words.{dataRefusal, viewRefusal}
 
 module _ (S : Store) (s : ℕ) where
-  pub get-tests : (w : ℕ) → refusal S (get s w) ≡ firstRefusal (reason (top S s s)) (dataRefusal ((kinds S) .declared) ((kinds S) .sizes) ((kinds S) .marks) (object S s) (held S s) w)
+  pub get-tests : (w : ℕ) → refusal S (get s w) ≡ firstRefusal (reason (top S s s)) (dataRefusal ((kinds S) .declared) ((kinds S) .sizes) ((kinds S) .marks) (object S s) (inSlot S s) w)
   unfolding refusal checks
   get-tests w = one-slot S (eqb (slot S s) 0 yields 14 ∷ noWord S s w yields 15 ∷ not (isData S s w) yields 16 ∷ []) s ∙ ap (firstRefusal (reason (top S s s))) (tested S s not w)
 
@@ -31,12 +31,12 @@ module _ (S : Store) (s : ℕ) where
   put-tests w x = refl
 
   view-tests : let f = frames S in let k = kinds S in let n = headerIn (object S s) in
-      refusal S (view s) ≡ viewRefusal ((pages S) .made) (length (S .heap)) (f .standing) (f .widths) (k .marks) n (sizeIn (k .declared) (k .sizes) n) (held S s) s
+      refusal S (view s) ≡ viewRefusal ((pages S) .made) (length (S .heap)) (f .standing) (f .widths) (k .marks) n (sizeIn (k .declared) (k .sizes) n) (inSlot S s) s
   unfolding refusal checks allData Kinds.allData slot slotAt topFrame markAt sizeOf
-  view-tests = rw (object-header (S .heap) (held S s)) (one-slot S (eqb (held S s) 0 yields 14 ∷ not (Kinds.allData (kinds S) (kindOf (S .heap) (held S s))) yields 16 ∷ []) s)
+  view-tests = rw (object-header (S .heap) (inSlot S s)) (one-slot S (eqb (inSlot S s) 0 yields 14 ∷ not (Kinds.allData (kinds S) (kindOf (S .heap) (inSlot S s))) yields 16 ∷ []) s)
 
   -- v and o are what functions gave: what the slot holds, and the object that it leads to
-  module _ (v : ℕ) (o : List ℕ) (led : v ≡ held S s) (read : o ≡ objectOf (S .heap) v) where
+  module _ (v : ℕ) (o : List ℕ) (led : v ≡ inSlot S s) (read : o ≡ objectOf (S .heap) v) where
     -- so are t and g, for the tests of the slot, which accept, and of word w
     module _ (w t g : ℕ) (first : t ≡ reason (top S s s)) (passed : t ≡ 0) (asked : g ≡ dataRefusal ((kinds S) .declared) ((kinds S) .sizes) ((kinds S) .marks) o v w) where
       pub get-second : refusal S (get s w) ≡ g

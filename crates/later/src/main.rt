@@ -1,4 +1,4 @@
-// Rules that document 01 states and its cases leave out, on the store: the last eight rows of `further` in the model.
+// Rules that document 01 states and its cases leave out, on the store: the rows of `further` in the model from `lastDrops` on.
 // For each, make with its line, and then the row's calls, with the lines that the row prints.
 use trials::ABOUT;
 use trials::ALLOCATE;

@@ -1,1 +1,1 @@
-// The reference model of the store, its laws and its table of sessions, in specs/. No code.
+// The reference model of the store, its laws and its rows of sessions, in specs/. No code.

@@ -42,46 +42,46 @@ pub record Sized (S : Store) : Type 0 where
 
 -- ---- the size of each number: 8, 16 and 32 bits
 
-abbrev pub Bytes : List ℕ → Type 0
-Bytes l = All (λ x. x < 256) l
+abbrev pub Bits8 : List ℕ → Type 0
+Bits8 l = All (λ x. x < 256) l
 
-abbrev pub Halves : List ℕ → Type 0
-Halves l = All (λ x. x < 65536) l
+abbrev pub Bits16 : List ℕ → Type 0
+Bits16 l = All (λ x. x < 65536) l
 
-abbrev pub Words : List ℕ → Type 0
-Words l = All (λ x. x < 4294967296) l
+abbrev pub Bits32 : List ℕ → Type 0
+Bits32 l = All (λ x. x < 4294967296) l
 
 pub record FramesBounded (f : Frames) : Type 0 where
   pub standing : f .standing < 4294967296
   pub counted : f .counted < 4294967296
-  pub widths : Bytes (f .widths)
-  pub slots : Words (f .slots)
+  pub widths : Bits8 (f .widths)
+  pub slots : Bits32 (f .slots)
 
 pub record KindsBounded (k : Kinds) : Type 0 where
   pub declared : k .declared < 4294967296
-  pub sizes : Bytes (k .sizes)
-  pub marks : Bytes (k .marks)
+  pub sizes : Bits8 (k .sizes)
+  pub marks : Bits8 (k .marks)
 
 pub record RegionsBounded (r : Regions) : Type 0 where
   pub given : r .given < 4294967296
-  pub names : Words (r .names)
-  pub parents : Bytes (r .parents)
-  pub levels : Bytes (r .levels)
-  pub counts : Words (r .counts)
-  pub newest : Halves (r .newest)
-  pub oldest : Words (r .oldest)
+  pub names : Bits32 (r .names)
+  pub parents : Bits8 (r .parents)
+  pub levels : Bits8 (r .levels)
+  pub counts : Bits32 (r .counts)
+  pub newest : Bits16 (r .newest)
+  pub oldest : Bits32 (r .oldest)
 
 pub record PagesBounded (p : Pages) : Type 0 where
   pub made : p .made < 4294967296
-  pub owners : Bytes (p .owners)
-  pub taken : Bytes (p .taken)
+  pub owners : Bits8 (p .owners)
+  pub taken : Bits8 (p .taken)
 
 pub record Bounded (S : Store) : Type 0 where
   pub inFrames : FramesBounded (frames S)
   pub inKinds : KindsBounded (kinds S)
   pub inRegions : RegionsBounded (regions S)
   pub inPages : PagesBounded (pages S)
-  pub heap : Words (S .heap)
+  pub heap : Bits32 (S .heap)
 
 pub record Shaped (S : Store) : Type 0 where
   pub sized : Sized S

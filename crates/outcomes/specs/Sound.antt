@@ -87,15 +87,15 @@ abbrev pub soundCounted : Store → Bool
 soundCounted S = leb ((frames S) .counted) ((frames S) .standing - 1)
 
 -- the heap's length is the one made
-abbrev pub soundLength : Store → Bool
-soundLength S = eqb (length (S .heap)) (64 * (pages S) .made)
+abbrev pub soundHeapLength : Store → Bool
+soundHeapLength S = eqb (length (S .heap)) (64 * (pages S) .made)
 
 -- names of live regions: no two the same, none that was not given, and region 1 lives
-abbrev pub soundNames : Store → Bool
-soundNames S = every (λ i. eqb (times (nameAt (regions S) i) (map (nameAt (regions S)) (entries S))) 1) (entries S)
+abbrev pub soundDistinct : Store → Bool
+soundDistinct S = every (λ i. eqb (times (nameAt (regions S) i) (map (nameAt (regions S)) (entries S))) 1) (entries S)
 
-abbrev pub soundNamed : Store → Bool
-soundNamed S = every (λ i. leb (nameAt (regions S) i) ((regions S) .given)) (entries S)
+abbrev pub soundNamesGiven : Store → Bool
+soundNamesGiven S = every (λ i. leb (nameAt (regions S) i) ((regions S) .given)) (entries S)
 
 abbrev pub soundPermanent : Store → Bool
 soundPermanent S = among 1 (map (nameAt (regions S)) (entries S))
@@ -121,7 +121,7 @@ soundOldest S = every (oldestOwn S) (entries S)
 abbrev pub clauses : Store → List Bool
 clauses S =
     soundCounts S ∷ soundSlots S ∷ soundWords S ∷ soundHeld S ∷ soundMade S ∷ soundDeclared S ∷ soundSizes S ∷ soundMarks S ∷ soundStanding S ∷ soundWidths S ∷ soundLevels S
-    ∷ soundGiven S ∷ soundCounted S ∷ soundLength S ∷ soundNames S ∷ soundNamed S ∷ soundPermanent S ∷ soundParents S ∷ soundFilling S ∷ soundNewest S ∷ soundOldest S ∷ []
+    ∷ soundGiven S ∷ soundCounted S ∷ soundHeapLength S ∷ soundDistinct S ∷ soundNamesGiven S ∷ soundPermanent S ∷ soundParents S ∷ soundFilling S ∷ soundNewest S ∷ soundOldest S ∷ []
 
 -- the audit's answer: whether every clause holds
 unfoldable pub sound : Store → Bool
@@ -141,9 +141,9 @@ pub record Sound (S : Store) : Type 0 where
   pub levels : soundLevels S ≡ true
   pub given : soundGiven S ≡ true
   pub counted : soundCounted S ≡ true
-  pub heapLength : soundLength S ≡ true
-  pub distinct : soundNames S ≡ true
-  pub namesGiven : soundNamed S ≡ true
+  pub heapLength : soundHeapLength S ≡ true
+  pub distinct : soundDistinct S ≡ true
+  pub namesGiven : soundNamesGiven S ≡ true
   pub permanent : soundPermanent S ≡ true
   pub parents : soundParents S ≡ true
   pub filling : soundFilling S ≡ true

@@ -96,15 +96,15 @@ pub fn with_kind(heap: &mut [u32], marks: &[u32]) -> State {
     d.state
 }
 
-// A line for the call at that place, from the place `shown` on.
-fn line_from(shown: u32, place: u32, r: Reply) {
-    if shown <= place {
+// A line for the call at that place, from the place `since` on.
+fn line_from(since: u32, place: u32, r: Reply) {
+    if since <= place {
         lines::line(place, r);
     }
 }
 
-// A session goes on: these calls, each its number and three arguments, the first of them at the place `first`; a line for those from the place `shown` on, which begins with the call's place.
-pub fn plays(s: State, heap: &mut [u32], first: u32, shown: u32, calls: &[[u32; 4]]) -> State {
+// A session goes on: these calls, each its number and three arguments, the first of them at the place `first`; a line for those from the place `since` on, which begins with the call's place.
+pub fn plays(s: State, heap: &mut [u32], first: u32, since: u32, calls: &[[u32; 4]]) -> State {
     let mut t = s;
     let mut place = first;
     let mut i: usize = 0;
@@ -112,7 +112,7 @@ pub fn plays(s: State, heap: &mut [u32], first: u32, shown: u32, calls: &[[u32; 
         let c = calls[i];
         i += 1;
         let d = called(t, heap, c[0], c[1], c[2], c[3]);
-        line_from(shown, place, d.reply);
+        line_from(since, place, d.reply);
         place = std::num::wrapping_add_u32(place, 1);
         t = d.state;
     }

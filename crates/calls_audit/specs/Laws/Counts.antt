@@ -60,10 +60,10 @@ module _ (S : Store) where
   abbrev tags : List ℕ
   tags = countedTags (kinds S) (S .heap) ((pages S) .made) ((pages S) .owners) ((pages S) .taken) ((frames S) .counted) ((frames S) .widths) ((frames S) .slots)
 
-  abbrev words : ℕ → List ℕ
-  words = wordTags (kinds S) (S .heap) ((pages S) .owners) ((pages S) .taken)
+  abbrev tagsOn : ℕ → List ℕ
+  tagsOn = wordTags (kinds S) (S .heap) ((pages S) .owners) ((pages S) .taken)
 
-  word-tags : (t j : ℕ) → times t (words j) ≡ wordsInto S t j
+  word-tags : (t j : ℕ) → times t (tagsOn j) ≡ wordsInto S t j
   unfolding wordTags wordsInto ownerOf outOf freeWordsOn headersOn takenAt ownerAt
   word-tags t j = by-test (eqb own 0) (λ e. rw e) (λ e.
       rw e (times-keep t (λ x. not (eqb x own)) (map (ownerIn ((pages S) .owners)) vs)
@@ -80,9 +80,9 @@ module _ (S : Store) where
   all-tags t =
       let n : ℕ → ℕ = λ x. bit (eqb x t) in
       let fs = targetsIn ((frames S) .widths) ((frames S) .slots) ((pages S) .owners) in
-      let a = sum-joined n words (upTo (pageCount (pages S))) ∙ sum-below (λ j. times t (words j)) (wordsInto S t) (pageCount (pages S)) (λ j l. word-tags t j) in
+      let a = sum-joined n tagsOn (upTo (pageCount (pages S))) ∙ sum-below (λ j. times t (tagsOn j)) (wordsInto S t) (pageCount (pages S)) (λ j l. word-tags t j) in
       let b = sum-joined n fs (upTo ((frames S) .counted)) in
-      omega (arith, a, b, sum-append n (joined words (upTo (pageCount (pages S)))) (joined fs (upTo ((frames S) .counted))))
+      omega (arith, a, b, sum-append n (joined tagsOn (upTo (pageCount (pages S)))) (joined fs (upTo ((frames S) .counted))))
 
   words-few : (t j : ℕ) → wordsInto S t j ≤ 1024
   unfolding wordsInto

@@ -22,23 +22,23 @@ use Rattle.checks.specs.Checks.{firstRefusal, wordTests}
 
 module _ (S : Store) (s : ℕ) where
   -- what slot s holds, and the object that it leads to
-  abbrev pub held : ℕ
-  held = slotIn ((frames S) .slots) (topIn ((frames S) .standing)) s
+  abbrev pub inSlot : ℕ
+  inSlot = slotIn ((frames S) .slots) (topIn ((frames S) .standing)) s
 
   abbrev pub object : List ℕ
-  object = objectOf (S .heap) held
+  object = objectOf (S .heap) inSlot
 
-  abbrev pub words : ℕ → List (Bool × ℕ)
-  words = wordTests ((kinds S) .declared) ((kinds S) .sizes) object held
+  abbrev pub testsOf : ℕ → List (Bool × ℕ)
+  testsOf = wordTests ((kinds S) .declared) ((kinds S) .sizes) object inSlot
 
   abbrev pub mark : ℕ → ℕ
   mark w = markIn ((kinds S) .marks) (headerIn object) w
 
   -- a test on a word's mark, after those of the word
   pub tested : (test : Bool → Bool) (w : ℕ)
-      → reason (eqb (slot S s) 0 yields 14 ∷ noWord S s w yields 15 ∷ test (isData S s w) yields 16 ∷ []) ≡ firstRefusal (reason (words w)) (reason (test (eqb (mark w) 0) yields 16 ∷ []))
+      → reason (eqb (slot S s) 0 yields 14 ∷ noWord S s w yields 15 ∷ test (isData S s w) yields 16 ∷ []) ≡ firstRefusal (reason (testsOf w)) (reason (test (eqb (mark w) 0) yields 16 ∷ []))
   unfolding wordTests noWord isData wordCount markOf markAt sizeOf slot slotAt topFrame
-  tested test w = rw (← object-header (S .heap) held) (reason-append (words w) (test (eqb (mark w) 0) yields 16 ∷ []) refl)
+  tested test w = rw (← object-header (S .heap) inSlot) (reason-append (testsOf w) (test (eqb (mark w) 0) yields 16 ∷ []) refl)
 
 -- where the tests of a word accept, what the part that begins at its object has is the word
 pub word-read : (declared : ℕ) (sizes heap : List ℕ) (v w g : ℕ) → firstRefusal (reason (wordTests declared sizes (objectOf heap v) v w)) g ≡ 0 → wordIn (objectOf heap v) w ≡ wordAt heap v w

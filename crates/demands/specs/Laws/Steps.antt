@@ -75,10 +75,10 @@ deleted-names S rs = ap (λ l. clearedAt l (map (entryOf (regions S)) rs)) (reco
 
 module _ {L : Model} {sp : List ℕ} {ids : ℕ → List ℕ} {S : Store} (rep : Represents L sp ids S) where
   -- the slot then holds the pointer of the object made on page j
-  shown-is : Valid L → Sized S → {h : History} → Tells L sp h → (s i k j : ℕ) → noFrame L ≡ false → lacks (top L) s ≡ false
+  slot-after-is : Valid L → Sized S → {h : History} → Tells L sp h → (s i k j : ℕ) → noFrame L ≡ false → lacks (top L) s ≡ false
       → slotAfter h (allocated S s i k j) s ≡ 64 * j + pick (roomy S i (size S k)) (takenAt (pages S) j) 0 + 1
   unfolding allocated fillSlot putSlot slotAt
-  shown-is v sh {h} t s i k j n m =
+  slot-after-is v sh {h} t s i k j n m =
       let e : length (h .frames) - 1 ≡ topFrame (frames S) = ap (λ n. n - 1) (frames-length t) ∙ sym (top-frame (rep .onFrames)) in
       let b : 8 * topFrame (frames S) + s < length ((frames S) .slots) =
       omega (arith, top-frame (rep .onFrames), v .frames .many, eqb-false (length (L .frames)) 0 n, leb-false (length (top L)) s m, frame-small (L .frames) (v .frames .sized) (topPlace (L .frames)), sh .inFrames .slots) in
@@ -132,7 +132,7 @@ module _ {N : ℕ} {L : Model} {S : Store} {h : History} (k : Told N L S h) (a :
       let f = chosen-page L (g .places) (g .onPage) S v sh rep r k j l c in
       let y : x / 64 ≡ j = omega (arith, f .2) in
       let n = add-one x in
-      let z = shown-is rep v sh t s i k j (w .0) (w .1 .0) ∙ n in
+      let z = slot-after-is rep v sh t s i k j (w .0) (w .1 .0) ∙ n in
       let on = joined L (g .places) (g .onPage) S v sh rep r k j l in (
         b,
         g .places ++ (suc x ∷ []),

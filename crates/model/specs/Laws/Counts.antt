@@ -19,7 +19,7 @@ use Rattle.model.specs.Model.{Model, Object, Region, noObject, object, l
 use Rattle.model.specs.Calls.{accepted, withFrames, fillSlot, popFrame, replaced, withWord, writeWord, addRegion, addObject, removeRegions, others, size, null}
 use Rattle.model.specs.Valid.{Valid, ValidObject, known, fine}
 use Rattle.model.specs.Moves.{between, uncounted, newly, weighs, fromRegion, fromRegions}
-use Rattle.model.specs.Laws.Slots.{in-list, object-valid, held-lives}
+use Rattle.model.specs.Laws.Slots.{in-list, object-valid, slot-lives}
 use Rattle.model.specs.Laws.Regions.{live-others, live-removed, homes-kept}
 use Rattle.model.specs.Laws.Removable.{Removable, member-lives}
 use Rattle.model.specs.Laws.Grows.{Extends, region-extends, object-extends, marks-append, change}
@@ -104,7 +104,7 @@ module _ (L : Model) (r : ℕ) (v : Valid L) (s w x : ℕ) (n : null L s ≡ fal
   write-words : wordPointers (writeWord L s w x) r + weighs L s w r (getD ((inSlot L s) .words) w 0) ≡ wordPointers L r + weighs L s w r x
   unfolding writeWord weighs adds
   write-words =
-      let l = held-lives L v s n in
+      let l = slot-lives L v s n in
       rw (homes-kept (L .objects) (slot L s) w x)
       (words-set (livesIn L) (homeIn L) (L .kinds) r (L .objects) (slot L s) w x (eqb-false (slot L s) 0 n) (in-list L v (slot L s) l) l (object-valid L v (slot L s) l .sized) k)
 

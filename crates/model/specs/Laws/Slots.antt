@@ -43,8 +43,8 @@ module _ (L : Model) (v : Valid L) where
   object-valid (suc i) l = all-in (ValidIn L) (L .objects) i noObject (v .objects) (in-list (suc i) l)
 
   -- the object in a slot that is not null lives
-  pub held-lives : (s : ℕ) → null L s ≡ false → livesIn L ((inSlot L s) .home) ≡ true
-  held-lives s n = or-other (null L s) (livesIn L ((inSlot L s) .home)) (slot-known (topPlace (L .frames)) s) n
+  pub slot-lives : (s : ℕ) → null L s ≡ false → livesIn L ((inSlot L s) .home) ≡ true
+  slot-lives s n = or-other (null L s) (livesIn L ((inSlot L s) .home)) (slot-known (topPlace (L .frames)) s) n
 
   -- ---- frames
 
@@ -106,7 +106,7 @@ module _ (L : Model) (v : Valid L) where
   unfolding accepted checks
   load-valid s w t e =
       let c = passed L (load s w t) e in
-      let l = held-lives s (c .1 .1 .0) in
+      let l = slot-lives s (c .1 .1 .0) in
       let o = object-valid (slot L s) l in
       let k = leb-false (length ((inSlot L s) .words)) w (c .1 .1 .1 .0) in
       let f = all₂-in _ (slotMarks L s) ((inSlot L s) .words) w 0 0 (o .fineWords l) (omega (arith, o .sized)) k in

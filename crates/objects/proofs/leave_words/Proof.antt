@@ -8,7 +8,7 @@ use borrow.Author.Needs.{needs}
 use Rattle.regions.specs.Laws.Steps.{steps, leavings, steps-length}
 use Rattle.objects.specs.Objects.{outOf}
 use Rattle.objects.specs.Parts.{wordIn, freeWordsIn}
-use Rattle.objects.specs.Laws.Words.{marked-one, marked-not}
+use Rattle.objects.specs.Laws.Words.{free-one, free-not}
 use Rattle.objects.specs.Laws.Leaving.{left-left}
 use Rattle.objects.proofs.leave_words.Statement.{statement}
 use Rattle.objects.proofs.leave_words.Tie as tie
@@ -32,9 +32,9 @@ loop-again c =
       omega arith,
       ⊎-elim
           (λ w.
-          rw (marked-one (a .marks .now) (a .object .now) (l .loop .w) (sym m ∙ w .0 .taken), ← left-left (a .owners .now) (a .own) (a .counts .now) (freeWordsIn (a .marks .now) (a .object .now) (l .loop .w)) (wordIn (a .object .now) (l .loop .w) ∷ []), ← l .loop .inv .1)
+          rw (free-one (a .marks .now) (a .object .now) (l .loop .w) (sym m ∙ w .0 .taken), ← left-left (a .owners .now) (a .own) (a .counts .now) (freeWordsIn (a .marks .now) (a .object .now) (l .loop .w)) (wordIn (a .object .now) (l .loop .w) ∷ []), ← l .loop .inv .1)
           (w .6 ∙ w .3 .ensures ∙ ap (λ v. leavings (l .loop .counts) (outOf (a .owners .now) (a .own) (v ∷ []))) (w .2 .ensures)))
-          (λ w. rw (marked-not (a .marks .now) (a .object .now) (l .loop .w) (λ q. w .0 .left (m ∙ q))) (w .1 ∙ l .loop .inv .1))
+          (λ w. rw (free-not (a .marks .now) (a .object .now) (l .loop .w) (λ q. w .0 .left (m ∙ q))) (w .1 ∙ l .loop .inv .1))
           (c .if1 .came),
     )
 

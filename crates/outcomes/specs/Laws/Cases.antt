@@ -56,7 +56,7 @@ cases =
     ∷ (refusal three (load 0 0 7), 9)
     ∷ (wordAt (three .heap) 65 1, 42)
     ∷ (wordAt (three .heap) 65 0, 1)
-    -- put writes the word that it names and no other
+    -- put writes the word that it names and no other. put_into_another_word: 42 for the 43
     ∷ (wordAt (writeWord small 65 1 43 .heap) 65 1, 43)
     ∷ (wordAt (writeWord small 65 1 43 .heap) 65 0, 1)
     -- view: of an object of kind 3, its two words; of one with pointer words, none

@@ -23,7 +23,7 @@ use Rattle.pages.specs.declared.Pages.{Pages}
 use Rattle.pages.specs.Pages.{pageCount, isFree, takenAt}
 use Rattle.outcomes.specs.Store.{Store, frames, kinds, regions, pages, slot, size, roomy, roomyIn}
 use Rattle.outcomes.specs.Sound.{sound}
-use Rattle.outcomes.specs.Shape.{FramesBounded, KindsBounded, RegionsBounded, PagesBounded, Bounded, Words}
+use Rattle.outcomes.specs.Shape.{FramesBounded, KindsBounded, RegionsBounded, PagesBounded, Bounded, Bits32}
 use Rattle.outcomes.specs.Outcome.{Outcome, Accepted, Answered, Chosen, refusal, checks, dead, namesOut, withFrames, withKinds, withRegions, withPages, withHeap, fillSlot, writeWord, recounted, pointed, popFrame, allocated, outgoing, newlyCounted, deleted}
 use Rattle.promises.specs.Promises.{Sent, KeepsShape}
 use Rattle.promises.specs.Laws.Sizes.{keeps-size}
@@ -31,13 +31,13 @@ use Rattle.promises.specs.Laws.Passed.{passed}
 use Rattle.outcomes.specs.Laws.Bounded.{below-at, all-sets, pick-below, slot-below, put-slot, push-frame, pop-frame, raise-mark, with-kind, with-region, without-regions, with-page, recount-bounded, with-taken, free-pages}
 use Rattle.outcomes.specs.Laws.Values.{size-most, outside-below, word-below, kind-below, live-below, subregions-below, pages-below, name-below, count-below, oldest-below}
 
-zeros : Words (gives [] .values)
+zeros : Bits32 (gives [] .values)
 zeros = (omega arith, (omega arith, (omega arith, (omega arith, tt))))
 
-one : (x : ℕ) → x < 4294967296 → Words (gives (x ∷ []) .values)
+one : (x : ℕ) → x < 4294967296 → Bits32 (gives (x ∷ []) .values)
 one x h = (h, (omega arith, (omega arith, (omega arith, tt))))
 
-four-small : (x y z w : ℕ) → x < 4294967296 → y < 4294967296 → z < 4294967296 → w < 4294967296 → Words (gives (x ∷ y ∷ z ∷ w ∷ []) .values)
+four-small : (x y z w : ℕ) → x < 4294967296 → y < 4294967296 → z < 4294967296 → w < 4294967296 → Bits32 (gives (x ∷ y ∷ z ∷ w ∷ []) .values)
 four-small x y z w h k l m = (h, (k, (l, (m, tt))))
 
 -- ---- a store with another part
@@ -55,7 +55,7 @@ module _ (S : Store) (h : Bounded S) where
   with-pages : (p : Pages) → PagesBounded p → Bounded (withPages S p)
   with-pages p k = record { inFrames = h .inFrames; inKinds = h .inKinds; inRegions = h .inRegions; inPages = k; heap = h .heap }
 
-  with-heap : (l : List ℕ) → Words l → Bounded (withHeap S l)
+  with-heap : (l : List ℕ) → Bits32 l → Bounded (withHeap S l)
   with-heap l k = record { inFrames = h .inFrames; inKinds = h .inKinds; inRegions = h .inRegions; inPages = h .inPages; heap = k }
 
 -- ---- the steps that several calls share
@@ -160,14 +160,14 @@ allocated-bounded S s i k j h b m c =
 
 -- ---- every call
 
-both-of : (a b : Answer) (T U : Store) → (a ≡ b) × (T ≡ U) → Bounded U → Words (b .values) → Bounded T × Words (a .values)
-both-of a b T U q h k = (subst⁻¹ Bounded (q .1) h, subst⁻¹ (λ x. Words (x .values)) (q .0) k)
+both-of : (a b : Answer) (T U : Store) → (a ≡ b) × (T ≡ U) → Bounded U → Bits32 (b .values) → Bounded T × Bits32 (a .values)
+both-of a b T U q h k = (subst⁻¹ Bounded (q .1) h, subst⁻¹ (λ x. Bits32 (x .values)) (q .0) k)
 
 bit-below : (b : Bool) → bit b < 4294967296
 bit-below true = omega arith
 bit-below false = omega arith
 
-accepted-keeps : (c : Call) (S : Store) (a : Answer) (T : Store) → Sent c → Bounded S → refusal S c ≡ 0 → Accepted c S a T → Bounded T × Words (a .values)
+accepted-keeps : (c : Call) (S : Store) (a : Answer) (T : Store) → Sent c → Bounded S → refusal S c ≡ 0 → Accepted c S a T → Bounded T × Bits32 (a .values)
 unfolding Accepted checks namesOut wrongMarks
 accepted-keeps (declare ms) S a T x h e q =
     let t = passed S (declare ms) e in
@@ -220,11 +220,11 @@ accepted-keeps totals S a T x h e q =
 accepted-keeps audit S a T x h e q = both-of a _ T _ q h (one _ (bit-below (sound S)))
 accepted-keeps (delete r) S a T x h e q = both-of a _ T _ q (deleted-bounded S h (r ∷ [])) (one _ (omega (arith, pages-below (pages S) (tagOf (regions S) r))))
 
-keeps-bounds : (c : Call) (S : Store) (a : Answer) (T : Store) → Sent c → Bounded S → Outcome c S a T → Bounded T × Words (a .values)
+keeps-bounds : (c : Call) (S : Store) (a : Answer) (T : Store) → Sent c → Bounded S → Outcome c S a T → Bounded T × Bits32 (a .values)
 unfolding Outcome
 keeps-bounds c S a T x h o = go (refusal S c) refl o
   where
-    go : (n : ℕ) → refusal S c ≡ n → Answered n c S a T → Bounded T × Words (a .values)
+    go : (n : ℕ) → refusal S c ≡ n → Answered n c S a T → Bounded T × Bits32 (a .values)
     go zero e k = accepted-keeps c S a T x h e k
     go (suc n) e k = both-of a _ T _ k h zeros
 

@@ -16,7 +16,7 @@ use Rattle.model.specs.Model.{Model, Call, declare, newRegion, subregion, push,
 use Rattle.model.specs.Model.{region, livesIn, homeIn, parentIn, top, beneath, slot, inSlot, slotMarks, markAt, allowed, inFrames, stored, outside, subregions}
 use Rattle.model.specs.Calls.{checks, refusal, lacks, noFrame, oneFrame, null, noWord, dead, size, fits}
 use Rattle.model.specs.Valid.{Valid}
-use Rattle.model.specs.Laws.Slots.{held-lives}
+use Rattle.model.specs.Laws.Slots.{slot-lives}
 use Rattle.model.specs.Laws.Counts.{outside-stored}
 use Rattle.kinds.specs.Kinds.{sizeOf, markAt as kindMark, wrongMarks, allData as onlyData}
 use Rattle.regions.specs.Regions.{countAt, nameOf, entryOf, tagOf, parentAt, newestAt}
@@ -112,7 +112,7 @@ module _ {L : Model} {sp : List ℕ} {ids : ℕ → List ℕ} {S : Store} (v : V
     mark-is (h .onObjects) (h .onKinds) v (slot L s) w (top-known v s) (leb-false (length ((inSlot L s) .words)) w o),
     owner-name (h .onObjects) (h .onRegions) (slot L t) (top-known v t),
     owner-name (h .onObjects) (h .onRegions) (slot L s) (top-known v s),
-    parent-is (slot L s) (held-lives L v s n),
+    parent-is (slot L s) (slot-lives L v s n),
   )
 
   pub size-same : (k : ℕ) → storeSize S k ≡ size L k

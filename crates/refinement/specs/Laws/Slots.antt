@@ -19,7 +19,7 @@ use Rattle.model.specs.Model.{Model, Answer, region, livesIn, topPlace, top, be
 use Rattle.model.specs.Calls.{checks, refusal, reply, accepted, fillSlot, lacks, null, noWord}
 use Rattle.model.specs.Valid.{Valid}
 use Rattle.model.specs.Laws.Passed.{passed}
-use Rattle.model.specs.Laws.Slots.{held-lives}
+use Rattle.model.specs.Laws.Slots.{slot-lives}
 use Rattle.model.specs.Laws.Counts.{fill-stored}
 use Rattle.frames.specs.declared.Frames.{Frames}
 use Rattle.frames.specs.Frames.{topFrame, widthAt, slotAt, putSlot}
@@ -90,7 +90,7 @@ module _ (L : Model) (sp : List ℕ) (ids : ℕ → List ℕ) (S : Store) (v : V
   -- what word w of the object in slot s holds, as its mark says
   pub word-at : (s w : ℕ) → lacks (top L) s ≡ false → null L s ≡ false → noWord L s w ≡ false
       → wordAt (S .heap) (storeSlot S s) w ≡ imageOf sp (markAt L s w) (getD ((inSlot L s) .words) w 0)
-  word-at s w k n o = rw (slot-is h s k) (word-is (h .onObjects) (slot L s) w (held-lives L v s n) (leb-false (length ((inSlot L s) .words)) w o))
+  word-at s w k n o = rw (slot-is h s k) (word-is (h .onObjects) (slot L s) w (slot-lives L v s n) (leb-false (length ((inSlot L s) .words)) w o))
 
   -- the part of the heap that has all words of the object in slot s, where they are data
   words-at : (s : ℕ) → lacks (top L) s ≡ false → null L s ≡ false → every (eqb 0) (slotMarks L s) ≡ true
@@ -98,7 +98,7 @@ module _ (L : Model) (sp : List ℕ) (ids : ℕ → List ℕ) (S : Store) (v : V
   words-at s k n d =
       let p = spot sp (slot L s) in
       let ws = (inSlot L s) .words in
-      let o = h .onObjects .laid (slot L s) (held-lives L v s n) in
+      let o = h .onObjects .laid (slot L s) (slot-lives L v s n) in
       let len : length (take (length ws) (drop p (S .heap))) ≡ length ws = simp (length-take, length-drop) (omega (arith, o .inside)) in
       rw (slot-is h s k, size-is (h .onObjects) (h .onKinds) v (slot L s) (top-known v s)) (ext-getD 0 (take (length ws) (drop p (S .heap))) ws len (λ i b.
       let c : i < length ws = omega arith in

@@ -16,7 +16,7 @@ use Rattle.model.specs.Model.{Model, Object, Answer, noObject, object, marks, l
 use Rattle.model.specs.Calls.{checks, refusal, reply, accepted, lacks, null, replaced, withWord, writeWord}
 use Rattle.model.specs.Valid.{Valid}
 use Rattle.model.specs.Laws.Regions.{homes-kept}
-use Rattle.model.specs.Laws.Slots.{Known, held-lives, in-list}
+use Rattle.model.specs.Laws.Slots.{Known, slot-lives, in-list}
 use Rattle.model.specs.Moves.{weighs, moves}
 use Rattle.model.specs.Laws.Passed.{passed}
 use Rattle.model.specs.Laws.Moves.{accepted-stored}
@@ -79,7 +79,7 @@ module _ (L : Model) (sp : List ℕ) (ids : ℕ → List ℕ) (S : Store) (v : V
   os₂ = replaced (L .objects) (slot L s) (withWord (inSlot L s) w x)
 
   here : Alive L (slot L s)
-  here = held-lives L v s n
+  here = slot-lives L v s n
 
   -- the object q afterwards: the one written, or as it was
   object-either : (P : ℕ → Object → Type 0) → P (slot L s) (withWord (inSlot L s) w x) → ((q : ℕ) → q ≢ slot L s → P q (object (L .objects) q)) → (q : ℕ) → P q (object os₂ q)
@@ -164,7 +164,7 @@ module _ (L : Model) (sp : List ℕ) (ids : ℕ → List ℕ) (S : Store) (v : V
       → times (tagOf (regions S) r) (countedIn S (markAt L s w) (ownerOf (pages S) (spot sp (slot L s))) (spot sp q)) ≡ weighs L s w r q
   unfolding countedIn weighs
   counted-weighs q k =
-      let o = held-lives L v s n in
+      let o = slot-lives L v s n in
       rw (h .onObjects .owned (slot L s) o, leads-into (h .onRegions) (h .onObjects) ((inSlot L s) .home) o q k) (go (eqb (markAt L s w) 1 && not (eqb (homeIn L q) ((inSlot L s) .home))))
       ∙ once-unless (eqb (markAt L s w) 1) (homeIn L q) ((inSlot L s) .home) r
     where
@@ -182,7 +182,7 @@ module _ (L : Model) (sp : List ℕ) (ids : ℕ → List ℕ) (S : Store) (v : V
       let n = c .1 .1 .0 in
       let k = leb-false (length ((inSlot L s) .words)) w (c .1 .1 .1 .0) in
       let m = c .1 .1 .1 .1 .0 in
-      let o = held-lives L v s n in
+      let o = slot-lives L v s n in
       let old = getD ((inSlot L s) .words) w 0 in
       let was : wordAt (S .heap) (spot sp (slot L s)) w ≡ spot sp old = rw m at (word-is (h .onObjects) (slot L s) w o k) in
       let sort = mark-is (h .onObjects) (h .onKinds) v (slot L s) w (top-known v s) k in

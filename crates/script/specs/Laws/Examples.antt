@@ -1,4 +1,4 @@
--- Lines and what they say, by computation: one test over the table, and every name with as many arguments as it takes.
+-- Lines and what they say, by computation: one test over the table, and every name with the least arguments that it takes, with the most, and with one too many.
 -- Assumes nothing.
 use mathlib.Core.Path.{_≡_, refl}
 use mathlib.Core.Bool.{Bool, true, false, _&&_}

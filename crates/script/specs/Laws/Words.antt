@@ -1,4 +1,4 @@
--- Laws of `front` and `words`: a line begins with blanks, then a word, and goes on with the words after it.
+-- Laws of `front` and `tokens`: a line begins with blanks, then a word, and goes on with the words after it.
 -- Assumes nothing.
 use mathlib.Core.Path.{_≡_, refl, sym, ap, _∙_}
 use mathlib.Core.Bool.{Bool, true, false, not, _||_, false≢true}
@@ -55,22 +55,22 @@ module _ (f : ℕ → Bool) where
 
 -- ---- blanks, and then a word or none
 
-words-skip : (b : ℕ) (l : List ℕ) → blank b ≡ true → tokens (b ∷ l) ≡ tokens l
+tokens-skip : (b : ℕ) (l : List ℕ) → blank b ≡ true → tokens (b ∷ l) ≡ tokens l
 unfolding tokens blank
-words-skip b l e = let h : eqb b 35 ≡ false = ne-eqb b 35 (λ q. false≢true (sym (ap blank q) ∙ e)) in rw (h, e)
+tokens-skip b l e = let h : eqb b 35 ≡ false = ne-eqb b 35 (λ q. false≢true (sym (ap blank q) ∙ e)) in rw (h, e)
 
-words-blanks : (l : List ℕ) → tokens (drop (length (front blank l)) l) ≡ tokens l
-words-blanks [] = refl
-words-blanks (b ∷ l) = go (blank b) refl (words-blanks l)
+tokens-blanks : (l : List ℕ) → tokens (drop (length (front blank l)) l) ≡ tokens l
+tokens-blanks [] = refl
+tokens-blanks (b ∷ l) = go (blank b) refl (tokens-blanks l)
   where
     go : (t : Bool) → blank b ≡ t → tokens (drop (length (front blank l)) l) ≡ tokens l → tokens (drop (length (pick t (b ∷ front blank l) [])) (b ∷ l)) ≡ tokens (b ∷ l)
-    go true e h = h ∙ sym (words-skip b l e)
+    go true e h = h ∙ sym (tokens-skip b l e)
     go false e h = refl
 
-words-none : (l : List ℕ) → length (front blank l) ≡ 0 → length (front inWord l) ≡ 0 → tokens l ≡ []
+tokens-none : (l : List ℕ) → length (front blank l) ≡ 0 → length (front inWord l) ≡ 0 → tokens l ≡ []
 unfolding tokens inWord
-words-none [] h k = refl
-words-none (b ∷ l) h k = go (eqb b 35) (blank b) h k
+tokens-none [] h k = refl
+tokens-none (b ∷ l) h k = go (eqb b 35) (blank b) h k
   where
     go : (p q : Bool) → length (pick q (b ∷ front blank l) []) ≡ 0 → length (pick (not (p || q)) (b ∷ front inWord l) []) ≡ 0
         → pick p [] (pick q (tokens l) (pick (inWord (getD l 0 32)) (grown b (tokens l)) ((b ∷ []) ∷ tokens l))) ≡ []
@@ -78,9 +78,9 @@ words-none (b ∷ l) h k = go (eqb b 35) (blank b) h k
     go false true h k = absurd (omega arith)
     go false false h k = absurd (omega arith)
 
-words-begin : (b : ℕ) (l : List ℕ) → inWord b ≡ true → tokens (b ∷ l) ≡ pick (inWord (getD l 0 32)) (grown b (tokens l)) ((b ∷ []) ∷ tokens l)
+tokens-begin : (b : ℕ) (l : List ℕ) → inWord b ≡ true → tokens (b ∷ l) ≡ pick (inWord (getD l 0 32)) (grown b (tokens l)) ((b ∷ []) ∷ tokens l)
 unfolding tokens inWord
-words-begin b l e = let q = neither (eqb b 35) (blank b) (not-true _ e) in rw (q .0, q .1)
+tokens-begin b l e = let q = neither (eqb b 35) (blank b) (not-true _ e) in rw (q .0, q .1)
 
 -- a list begins with a word if its first byte does
 begins : (l : List ℕ) → inWord (getD l 0 32) ≡ true → 0 < length (front inWord l)
@@ -92,15 +92,15 @@ begins-not : (l : List ℕ) → inWord (getD l 0 32) ≡ false → front inWord 
 begins-not [] e = refl
 begins-not (b ∷ l) e = rw e
 
-words-word : (l : List ℕ) → 0 < length (front inWord l) → tokens l ≡ front inWord l ∷ tokens (drop (length (front inWord l)) l)
-words-word [] h = absurd (omega arith)
-words-word (b ∷ l) h = go (inWord b) refl (inWord (getD l 0 32)) refl h (words-word l)
+tokens-word : (l : List ℕ) → 0 < length (front inWord l) → tokens l ≡ front inWord l ∷ tokens (drop (length (front inWord l)) l)
+tokens-word [] h = absurd (omega arith)
+tokens-word (b ∷ l) h = go (inWord b) refl (inWord (getD l 0 32)) refl h (tokens-word l)
   where
     go : (p : Bool) → inWord b ≡ p → (q : Bool) → inWord (getD l 0 32) ≡ q → 0 < length (pick p (b ∷ front inWord l) [])
         → (0 < length (front inWord l) → tokens l ≡ front inWord l ∷ tokens (drop (length (front inWord l)) l))
         → tokens (b ∷ l) ≡ pick p (b ∷ front inWord l) [] ∷ tokens (drop (length (pick p (b ∷ front inWord l) [])) (b ∷ l))
-    go true e true g h ih = words-begin b l e ∙ rw (g, ih (begins l g))
-    go true e false g h ih = words-begin b l e ∙ rw (g, begins-not l g)
+    go true e true g h ih = tokens-begin b l e ∙ rw (g, ih (begins l g))
+    go true e false g h ih = tokens-begin b l e ∙ rw (g, begins-not l g)
     go false e q g h ih = absurd (omega arith)
 
 -- ---- at a place of a list
@@ -108,16 +108,16 @@ words-word (b ∷ l) h = go (inWord b) refl (inWord (getD l 0 32)) refl h (words
 pub next-word : (l : List ℕ) (at from to : ℕ) → from ≡ at + length (front (ofClass 0) (drop at l)) → to ≡ from + length (front (ofClass 1) (drop from l)) → NextWord l at from to
 unfolding ofClass
 next-word l at from to e f = record {
-  none = λ h. skipped ∙ words-none (drop from l) (rw (ap (λ n. drop n l) e ∙ sym (drop-drop _ at l)) (front-after blank (drop at l))) (omega arith);
+  none = λ h. skipped ∙ tokens-none (drop from l) (rw (ap (λ n. drop n l) e ∙ sym (drop-drop _ at l)) (front-after blank (drop at l))) (omega arith);
   some = λ h.
       let n : to - from ≡ length (front inWord (drop from l)) = omega arith in
-      skipped ∙ rw (n, front-take inWord (drop from l), f, sym (drop-drop (length (front inWord (drop from l))) from l)) (words-word (drop from l) (omega arith));
+      skipped ∙ rw (n, front-take inWord (drop from l), f, sym (drop-drop (length (front inWord (drop from l))) from l)) (tokens-word (drop from l) (omega arith));
   onward = omega arith;
   within = omega (arith, front-length inWord (drop from l), length-drop from l);
 }
   where
     skipped : tokens (drop at l) ≡ tokens (drop from l)
-    skipped = sym (words-blanks (drop at l)) ∙ ap tokens (drop-drop (length (front blank (drop at l))) at l ∙ ap (λ n. drop n l) (sym e))
+    skipped = sym (tokens-blanks (drop at l)) ∙ ap tokens (drop-drop (length (front blank (drop at l))) at l ∙ ap (λ n. drop n l) (sym e))
 
 pub line-none : (l : List ℕ) (at : ℕ) → length l ≤ at → LineAt l at []
 line-none l at h = record { is = rw (drop-of-length-le l {i = at} h); within = omega arith }

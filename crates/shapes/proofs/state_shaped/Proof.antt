@@ -1,5 +1,5 @@
 use borrow.Author.Needs.{needs}
-use Rattle.shapes.proofs.Laws.{bytes, halves, words}
+use Rattle.shapes.proofs.Laws.{bits8, bits16, bits32}
 use Rattle.shapes.proofs.state_shaped.Statement.{statement}
 use Rattle.shapes.proofs.state_shaped.Tie as tie
 
@@ -17,20 +17,20 @@ returns c heap h =
         inFrames = record {
           standing = search needs;
           counted = search needs;
-          widths = bytes (s .frames .widths) (λ i. search needs);
-          slots = words (s .frames .slots) (λ i. search needs);
+          widths = bits8 (s .frames .widths) (λ i. search needs);
+          slots = bits32 (s .frames .slots) (λ i. search needs);
         };
-        inKinds = record { declared = search needs; sizes = bytes (s .kinds .sizes) (λ i. search needs); marks = bytes (s .kinds .marks) (λ i. search needs) };
+        inKinds = record { declared = search needs; sizes = bits8 (s .kinds .sizes) (λ i. search needs); marks = bits8 (s .kinds .marks) (λ i. search needs) };
         inRegions = record {
           given = search needs;
-          names = words (s .regions .names) (λ i. search needs);
-          parents = bytes (s .regions .parents) (λ i. search needs);
-          levels = bytes (s .regions .levels) (λ i. search needs);
-          counts = words (s .regions .counts) (λ i. search needs);
-          newest = halves (s .regions .newest) (λ i. search needs);
-          oldest = words (s .regions .oldest) (λ i. search needs);
+          names = bits32 (s .regions .names) (λ i. search needs);
+          parents = bits8 (s .regions .parents) (λ i. search needs);
+          levels = bits8 (s .regions .levels) (λ i. search needs);
+          counts = bits32 (s .regions .counts) (λ i. search needs);
+          newest = bits16 (s .regions .newest) (λ i. search needs);
+          oldest = bits32 (s .regions .oldest) (λ i. search needs);
         };
-        inPages = record { made = search needs; owners = bytes (s .pages .owners) (λ i. search needs); taken = bytes (s .pages .taken) (λ i. search needs) };
+        inPages = record { made = search needs; owners = bits8 (s .pages .owners) (λ i. search needs); taken = bits8 (s .pages .taken) (λ i. search needs) };
         heap = h;
       };
     }
