@@ -28,12 +28,12 @@ passesIn heads cs heap declared sizes marks standing counted widths slots given 
     && heapFits heads declared sizes marks heap names parents newest oldest made owners taken standing widths slots
     && countsFit names cs (kindsWith declared sizes marks) heap made owners taken counted widths slots
 
--- of a memory; headers are ticked among as many zeros as a heap has words at most
-unfoldable pub passes : State → List ℕ → Bool
-passes s heap =
+-- of a memory; headers are ticked among as many zeros as a heap has words at most, and pointers leave the counts cs
+unfoldable pub passes : List ℕ → State → List ℕ → Bool
+passes cs s heap =
     let f = s .frames in
     let k = s .kinds in
     let g = s .regions in
     let p = s .pages in
-    passesIn (replicate 16384 0) (g .counts) heap (k .declared) (k .sizes) (k .marks) (f .standing) (f .counted) (f .widths) (f .slots)
+    passesIn (replicate 16384 0) cs heap (k .declared) (k .sizes) (k .marks) (f .standing) (f .counted) (f .widths) (f .slots)
     (g .given) (g .names) (g .parents) (g .levels) (g .newest) (g .oldest) (p .made) (p .owners) (p .taken)

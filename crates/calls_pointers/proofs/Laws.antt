@@ -3,7 +3,6 @@
 use mathlib.Core.Path.{_≡_, refl, sym, ap, ap₂, _∙_}
 use mathlib.Core.Bool.{Bool, true, false, not, _&&_}
 use mathlib.Core.List.{List, [], _∷_}
-use mathlib.Core.Logic.{inl}
 use Prim.Native.Nat.{ℕ, _+_}
 use lib.Dec.{eqb}
 use lib.ListN.{set}
@@ -14,10 +13,10 @@ use Rattle.model.specs.Calls.{reason, _yields_}
 use Rattle.frames.specs.Frames.{slotAt, topFrame}
 use Rattle.kinds.specs.Kinds.{markAt, markIn}
 use Rattle.regions.specs.declared.Regions.{Regions}
-use Rattle.regions.specs.Regions.{moved, withCounts, recount, nameOf, parentAt}
+use Rattle.regions.specs.Regions.{withCounts, recount, nameOf, parentAt}
 use Rattle.regions.specs.Laws.Steps.{steps, entering, leaving}
-use Rattle.regions.specs.Laws.Counts.{Counts, moved-come-skip, moved-gone-skip}
-use Rattle.regions.specs.Laws.Recount.{enter-leave-recount}
+use Rattle.regions.specs.Laws.Counts.{Counts}
+use Rattle.regions.specs.Laws.Recount.{recount-come-none, recount-gone-none, enter-leave-recount}
 use Rattle.pages.specs.Pages.{ownerIn, ownerOf}
 use Rattle.objects.specs.Objects.{kindOf, markOf, wordAt}
 use Rattle.objects.specs.Parts.{objectOf, headerIn, wordIn}
@@ -62,17 +61,14 @@ set-read declared sizes marks names parents owners heap v w x e =
 
 -- leaving one count and then entering another, by the regions that the outcome names
 counted-recount : (g : Regions) (k h a b : ℕ) → recount g (countedTag k h b ∷ []) (countedTag k h a ∷ []) ≡ recount g (pick (eqb k 1 && not (eqb b h)) (b ∷ []) []) (pick (eqb k 1 && not (eqb a h)) (a ∷ []) [])
-unfolding countedTag recount
-counted-recount g k h a b = ap (withCounts g) (go (eqb k 1 && not (eqb b h)) (eqb k 1 && not (eqb a h)))
+unfolding countedTag
+counted-recount g k h a b = go (eqb k 1 && not (eqb b h)) (eqb k 1 && not (eqb a h))
   where
-    cs : List ℕ
-    cs = g .counts
-
-    go : (p q : Bool) → moved cs (pick p b 0 ∷ []) (pick q a 0 ∷ []) ≡ moved cs (pick p (b ∷ []) []) (pick q (a ∷ []) [])
+    go : (p q : Bool) → recount g (pick p b 0 ∷ []) (pick q a 0 ∷ []) ≡ recount g (pick p (b ∷ []) []) (pick q (a ∷ []) [])
     go true true = refl
-    go true false = moved-gone-skip cs (b ∷ []) [] 0 (inl refl)
-    go false true = moved-come-skip cs [] (a ∷ []) 0 (inl refl)
-    go false false = moved-come-skip cs [] (0 ∷ []) 0 (inl refl) ∙ moved-gone-skip cs [] [] 0 (inl refl)
+    go true false = recount-gone-none g (b ∷ []) []
+    go false true = recount-come-none g [] (a ∷ [])
+    go false false = recount-come-none g [] (0 ∷ []) ∙ recount-gone-none g [] []
 
 set-recount : (g : Regions) → Counts (g .counts) → (k h a b : ℕ) → withCounts g (entering (leaving (g .counts) (countedTag k h a)) (countedTag k h b))
     ≡ recount g (pick (eqb k 1 && not (eqb b h)) (b ∷ []) []) (pick (eqb k 1 && not (eqb a h)) (a ∷ []) [])

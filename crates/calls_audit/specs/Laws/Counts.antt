@@ -1,10 +1,10 @@
 -- The test of the stored counts is Sound's clause, where names are distinct, pages are owned by regions that live, and all pointers lead to objects.
 -- Assumes nothing.
-use mathlib.Core.Path.{_≡_, refl, sym, ap, _∙_}
+use mathlib.Core.Path.{_≡_, refl, ap, _∙_}
 use mathlib.Core.Logic.{_≢_}
 use mathlib.Core.Bool.{Bool, true, false, not, _||_}
-use mathlib.Core.List.{List, [], map}
-use Prim.Native.Nat.{ℕ, suc, _+_, _-_, _*_, _%_, _≤_, _<_, min}
+use mathlib.Core.List.{List, map}
+use Prim.Native.Nat.{ℕ, suc, _+_, _-_, _≤_, _<_, min}
 use native.Mathlib.Omega.{arith}
 use lib.Dec.{eqb, leb}
 use lib.ListN.{getD}
@@ -19,9 +19,9 @@ use Rattle.lists.specs.Laws.Kept.{each-kept, sum-above}
 use Rattle.lists.specs.Laws.Every.{every-map, every-below}
 use Rattle.frames.specs.Frames.{frameCount, widthAt, slotAt}
 use Rattle.kinds.specs.Kinds.{sizeOf, markAt}
-use Rattle.regions.specs.Regions.{nameAt, nameOf, parentAt, countAt, rolled, moved}
-use Rattle.regions.specs.Laws.Counts.{Counts, moved-at}
-use Rattle.regions.specs.Laws.Steps.{leavings-moved}
+use Rattle.regions.specs.Regions.{nameAt, nameOf, parentAt, countAt}
+use Rattle.regions.specs.Laws.Counts.{Counts}
+use Rattle.regions.specs.Laws.Steps.{leavings, leavings-zero}
 use Rattle.pages.specs.Pages.{pageCount, ownerAt, takenAt, ownerIn, ownerOf}
 use Rattle.objects.specs.Objects.{headersOn, freeWords, freeWordsOn, outOf}
 use Rattle.outcomes.specs.Store.{Store, frames, kinds, regions, pages, targetsIn, slotTargets}
@@ -40,20 +40,15 @@ use Rattle.calls_audit.specs.Laws.Heap.{stands, slotsPass, wordPasses, o
 eqb-iff : (a b c d : ℕ) → (a ≡ b → c ≡ d) → (c ≡ d → a ≡ b) → eqb a b ≡ eqb c d
 eqb-iff a b c d f g = by-test (eqb c d) (λ e. rw e (eq-eqb a b (g (eqb-true c d e)))) (λ e. rw e (ne-eqb a b (λ q. eqb-false c d e (f q))))
 
--- a count is 0 once t pointers have left it, if there were t
-rolled-zero : (c t : ℕ) → c < 4294967296 → t < 4294967296 → eqb (rolled c 0 t) 0 ≡ eqb c t
-unfolding rolled
-rolled-zero c t h k = eqb-iff ((c + 0 + t * 4294967295) % 4294967296) 0 c t (λ e. omega arith) (λ e. omega arith)
-
 pick-not : (b : Bool) (n : ℕ) → pick (not b) n 0 ≡ pick b 0 n
 pick-not true n = refl
 pick-not false n = refl
 
 module _ (S : Store) where
-  -- ---- the test over lists, of those of S
+  -- ---- the test over lists, of those of S; cs is the list that pointers leave
 
-  abbrev pub countsPass : Bool
-  countsPass = countsFit ((regions S) .names) ((regions S) .counts) (kinds S) (S .heap) ((pages S) .made) ((pages S) .owners) ((pages S) .taken) ((frames S) .counted) ((frames S) .widths) ((frames S) .slots)
+  abbrev pub countsPass : List ℕ → Bool
+  countsPass cs = countsFit ((regions S) .names) cs (kinds S) (S .heap) ((pages S) .made) ((pages S) .owners) ((pages S) .taken) ((frames S) .counted) ((frames S) .widths) ((frames S) .slots)
 
   -- ---- tags
 
@@ -121,9 +116,9 @@ module _ (S : Store) where
           sum-most (slotsInto S t) 8 (upTo m) (all-upTo (λ f. slotsInto S t f ≤ 8) m (λ f l. slots-few t f (omega (arith, m-fits)))),
         )
 
-    -- ---- where all pointers lead to objects
+    -- ---- where all pointers lead to objects, and cs has the stored counts
 
-    module _ (h : Ordered S) (cs : Counts ((regions S) .counts)) (slots : slotsPass S ≡ true) (holds : wordsPass S ≡ true) where
+    module _ (h : Ordered S) (cs : List ℕ) (fits : Counts cs) (kept : (i : ℕ) → i < 64 → getD cs i 0 ≡ countAt (regions S) i) (slots : slotsPass S ≡ true) (holds : wordsPass S ≡ true) where
       slot-known : (f : ℕ) → f < frameCount (frames S) → (s : ℕ) → s < widthAt (frames S) f → Known S h (slotAt (frames S) f s)
       unfolding framesLead frameLeads frameCount widthAt slotAt
       slot-known f l s m =
@@ -155,11 +150,9 @@ module _ (S : Store) where
           (or-other (eqb t 0) _ (every-each (pageWordsPass S) (pageCount (pages S)) holds j l) (ne-eqb t 0 n)))
 
       count-same : (i : ℕ) → i < 64 → nameAt (regions S) i ≢ 0
-          → eqb (storedCount S (nameAt (regions S) i) + uncountedInto (begin S) S (nameAt (regions S) i)) (outside (begin S) S (nameAt (regions S) i)) ≡ eqb (getD (moved ((regions S) .counts) [] tags) i 0) 0
-      unfolding storedCount uncountedInto outside begin countAt
+          → eqb (storedCount S (nameAt (regions S) i) + uncountedInto (begin S) S (nameAt (regions S) i)) (outside (begin S) S (nameAt (regions S) i)) ≡ eqb (getD (leavings cs tags) i 0) 0
+      unfolding storedCount uncountedInto outside begin
       count-same i l n =
-          let c = getD ((regions S) .counts) i 0 in
-          let t = times (suc i) tags in
           let m = (frames S) .counted in
           let r = nameAt (regions S) i in
           let f = history.slotsLeadingTo (begin S) S r in
@@ -167,16 +160,18 @@ module _ (S : Store) where
           let a = sum-below f (slotsInto S (suc i)) m (λ k b. slots-into S h i n k (omega (arith, m-fits)) (slot-known k (omega (arith, m-fits)))) in
           let b = words-into S h i n page-known in
           let u = rw e at (sum-above f m (frameCount (frames S))) in
-          rw (entry-is S (h .names) (h .few) i n, frames-length S, moved-at ((regions S) .counts) [] tags i l, rolled-zero c t (cs .1 i) (tags-below (suc i)))
-          (eqb-iff (c + sumOf (λ k. pick (leb m k) (f k) 0) (upTo (frameCount (frames S)))) (sumOf f (upTo (frameCount (frames S))) + sumOf (history.wordsLeadingTo (begin S) S r) ((begin S) .objects)) c t (λ q. omega (arith, a, b, u, all-tags (suc i))) (λ q. omega (arith, a, b, u, all-tags (suc i))))
+          let z = leavings-zero cs tags fits i l (tags-below (suc i)) in
+          rw (entry-is S (h .names) (h .few) i n, frames-length S)
+          (eqb-iff (countAt (regions S) i + sumOf (λ k. pick (leb m k) (f k) 0) (upTo (frameCount (frames S)))) (sumOf f (upTo (frameCount (frames S))) + sumOf (history.wordsLeadingTo (begin S) S r) ((begin S) .objects)) (getD (leavings cs tags) i 0) 0
+          (λ q. z .1 (omega (arith, a, b, u, all-tags (suc i), kept i l)))
+          (λ q. omega (arith, a, b, u, all-tags (suc i), kept i l, z .0 q)))
 
-      pub counts-same : countsExact (begin S) S ≡ countsPass
+      pub counts-same : countsExact (begin S) S ≡ countsPass cs
       unfolding countsExact begin listedRegions countsFit allZero isZero nameAt
       counts-same =
           let exact : ℕ → Bool = λ r. eqb (storedCount S r + uncountedInto (begin S) S r) (outside (begin S) S r) in
-          let zero : ℕ → Bool = λ i. eqb (getD (moved ((regions S) .counts) [] tags) i 0) 0 in
+          let zero : ℕ → Bool = λ i. eqb (getD (leavings cs tags) i 0) 0 in
           every-map (λ g. exact (g .name)) (λ i. record { name = nameAt (regions S) i; parent = nameOf (regions S) (parentAt (regions S) i) }) (entries S)
           ∙ every-entry S (λ i. exact (nameAt (regions S) i))
           ∙ every-below (λ i. eqb (nameAt (regions S) i) 0 || exact (nameAt (regions S) i)) (λ i. eqb (nameAt (regions S) i) 0 || zero i) 64 (λ i l.
           by-test (eqb (nameAt (regions S) i) 0) (λ e. rw e) (λ e. ap (λ b. eqb (nameAt (regions S) i) 0 || b) (count-same i l (eqb-false (nameAt (regions S) i) 0 e))))
-          ∙ ap (allZero ((regions S) .names)) (sym (leavings-moved ((regions S) .counts) tags cs))

@@ -3,12 +3,12 @@
 use mathlib.Core.Path.{_≡_, refl, sym, _∙_}
 use mathlib.Core.Logic.{_≢_}
 use mathlib.Core.Bool.{Bool, true, _&&_}
-use mathlib.Core.List.{[], _∷_}
+use mathlib.Core.List.{List, [], _∷_}
 use Prim.Native.Nat.{ℕ, _<_}
-use lib.ListN.{length}
+use lib.ListN.{length, getD}
 use borrow.Author.Tests.{eqb-true}
 use Rattle.lists.specs.Laws.Tests.{both, by-test}
-use Rattle.regions.specs.Regions.{nameAt}
+use Rattle.regions.specs.Regions.{nameAt, countAt}
 use Rattle.regions.specs.Laws.Counts.{Counts}
 use Rattle.outcomes.specs.Store.{Store, regions}
 use Rattle.outcomes.specs.Sound.{sound, Sound, newestOwn, oldestOwn}
@@ -23,12 +23,13 @@ use Rattle.calls_audit.specs.Laws.State.{folded-true, each-entry, entry-
 use Rattle.calls_audit.specs.Laws.Heap.{pagesPass, newestPasses, oldestPasses, entriesPass, slotsPass, wordsPass, pages-pass, owned, held, filling, newest-same, oldest-same, slots-same, words-same}
 use Rattle.calls_audit.specs.Laws.Counts.{countsPass, counts-same}
 
-module _ (S : Store) (names : length ((regions S) .names) ≡ 64) (cs : Counts ((regions S) .counts)) where
+-- cs is the list of counts that the tests have, which are the stored counts
+module _ (S : Store) (names : length ((regions S) .names) ≡ 64) (cs : List ℕ) (fits : Counts cs) (kept : (i : ℕ) → i < 64 → getD cs i 0 ≡ countAt (regions S) i) where
   abbrev statePasses : Bool
   statePasses = stateFits (S .state) (length (S .heap))
 
   -- all tests, group by group
-  all-tests : passes (S .state) (S .heap) ≡ (statePasses && (pagesPass S && entriesPass S && slotsPass S && wordsPass S) && countsPass S)
+  all-tests : passes cs (S .state) (S .heap) ≡ (statePasses && (pagesPass S && entriesPass S && slotsPass S && wordsPass S) && countsPass S cs)
   unfolding passes passesIn heapFits stateFits
   all-tests = refl
 
@@ -52,18 +53,18 @@ module _ (S : Store) (names : length ((regions S) .names) ≡ 64) (cs : Counts (
       sym (every-entry S own)
       ∙ entry-each S own (λ i l n. rw (← newest-same S i, ← oldest-same S o i n, each-entry S (newestOwn S) (h .newest) i l n) (each-entry S (oldestOwn S) (h .oldest) i l n))
 
-  sound-passes : Sound S → passes (S .state) (S .heap) ≡ true
+  sound-passes : Sound S → passes cs (S .state) (S .heap) ≡ true
   sound-passes h =
       let a = state-passes S h in
       let b = pages-pass S names h in
       let o = ordered a b in
       let f = sym (slots-same S o) ∙ h .slots in
       let w = sym (words-same S o) ∙ h .words in
-      all-tests ∙ rw (a, b, same-own o h, f, w) (sym (counts-same S (h .standing) (h .counted) (sym (widths-same S) ∙ h .widths) o cs f w) ∙ h .counts)
+      all-tests ∙ rw (a, b, same-own o h, f, w) (sym (counts-same S (h .standing) (h .counted) (sym (widths-same S) ∙ h .widths) o cs fits kept f w) ∙ h .counts)
 
-  passes-sound : passes (S .state) (S .heap) ≡ true → Sound S
+  passes-sound : passes cs (S .state) (S .heap) ≡ true → Sound S
   passes-sound e =
-      let all = folded-true statePasses ((pagesPass S && entriesPass S && slotsPass S && wordsPass S) ∷ countsPass S ∷ []) (sym all-tests ∙ e) in
+      let all = folded-true statePasses ((pagesPass S && entriesPass S && slotsPass S && wordsPass S) ∷ countsPass S cs ∷ []) (sym all-tests ∙ e) in
       let t = folded-true (pagesPass S) (entriesPass S ∷ slotsPass S ∷ wordsPass S ∷ []) (all .1 .0) in
       let a = all .0 in
       let b = t .0 in
@@ -72,7 +73,7 @@ module _ (S : Store) (names : length ((regions S) .names) ≡ 64) (cs : Counts (
       let w = t .1 .1 .1 .0 in
       let n = numbers S a in
       record {
-        counts = counts-same S (n .standing) (n .counted) (sym (widths-same S) ∙ widths S a) o cs f w ∙ all .1 .1 .0;
+        counts = counts-same S (n .standing) (n .counted) (sym (widths-same S) ∙ widths S a) o cs fits kept f w ∙ all .1 .1 .0;
         slots = slots-same S o ∙ f;
         words = words-same S o ∙ w;
         held = held S names b;
@@ -96,6 +97,6 @@ module _ (S : Store) (names : length ((regions S) .names) ≡ 64) (cs : Counts (
       }
 
   -- so they come to the audit's answer
-  pub passes-same : passes (S .state) (S .heap) ≡ sound S
+  pub passes-same : passes cs (S .state) (S .heap) ≡ sound S
   passes-same =
-      by-test (passes (S .state) (S .heap)) (λ p. p ∙ sym (is-sound S (passes-sound p))) (λ p. by-test (sound S) (λ e. sound-passes (sound-is S e) ∙ sym e) (λ e. p ∙ sym e))
+      by-test (passes cs (S .state) (S .heap)) (λ p. p ∙ sym (is-sound S (passes-sound p))) (λ p. by-test (sound S) (λ e. sound-passes (sound-is S e) ∙ sym e) (λ e. p ∙ sym e))

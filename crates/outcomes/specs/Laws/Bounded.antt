@@ -2,12 +2,12 @@
 -- Assumes nothing.
 use mathlib.Core.Bool.{Bool, true, false, _&&_}
 use mathlib.Core.List.{List, [], _∷_, map}
-use Prim.Native.Nat.{ℕ, suc, _+_, _-_, _*_, _%_, _≤_, _<_}
+use Prim.Native.Nat.{ℕ, suc, _+_, _-_, _*_, _≤_, _<_}
 use native.Mathlib.Omega.{arith}
 use lib.Dec.{ltb}
 use lib.ListN.{length, getD, set, replicate}
 use lib.Seq.{sets}
-use Rattle.lists.specs.Lists.{pick, All, upTo, times, among}
+use Rattle.lists.specs.Lists.{pick, All, upTo, among}
 use Rattle.lists.specs.Laws.All.{all-map, all-at, all-set, all-replicate, all-change}
 use Rattle.lists.specs.Laws.UpTo.{all-upTo}
 use Rattle.frames.specs.declared.Frames.{Frames}
@@ -15,7 +15,8 @@ use Rattle.frames.specs.Frames.{topFrame, slotAt, putSlot, pushed, uncountsIn, 
 use Rattle.kinds.specs.declared.Kinds.{Kinds}
 use Rattle.kinds.specs.Kinds.{withKind}
 use Rattle.regions.specs.declared.Regions.{Regions}
-use Rattle.regions.specs.Regions.{rolled, moved, withRegion, clearedAt, withoutRegions, withPage, withCounts, recount}
+use Rattle.regions.specs.Regions.{withRegion, clearedAt, withoutRegions, withPage, recount}
+use Rattle.regions.specs.Laws.Recount.{recount-beside, recount-below}
 use Rattle.pages.specs.declared.Pages.{Pages}
 use Rattle.pages.specs.Pages.{pageCount, ownerAt, withTaken, freed, ownersTo}
 use Rattle.outcomes.specs.Shape.{Bits32, FramesBounded, KindsBounded, RegionsBounded, PagesBounded, Bounded}
@@ -121,16 +122,17 @@ module _ (r : Regions) (h : RegionsBounded r) where
   }
 
   pub recount-bounded : (come gone : List ℕ) → RegionsBounded (recount r come gone)
-  unfolding recount withCounts moved rolled
-  recount-bounded come gone = record {
-    given = h .given;
-    names = h .names;
-    parents = h .parents;
-    levels = h .levels;
-    counts = below-map 64 4294967296 (λ i. (getD (r .counts) i 0 + times (suc i) come + times (suc i) gone * 4294967295) % 4294967296) (λ i. omega arith);
-    newest = h .newest;
-    oldest = h .oldest;
-  }
+  recount-bounded come gone =
+      let b = recount-beside r come gone in
+      record {
+        given = rw (b .given) (h .given);
+        names = rw (b .names) (h .names);
+        parents = rw (b .parents) (h .parents);
+        levels = rw (b .levels) (h .levels);
+        counts = recount-below r come gone;
+        newest = rw (b .newest) (h .newest);
+        oldest = rw (b .oldest) (h .oldest);
+      }
 
 module _ (p : Pages) (h : PagesBounded p) where
   pub with-taken : (j t n : ℕ) → t < 256 → n < 256 → PagesBounded (withTaken p j t n)

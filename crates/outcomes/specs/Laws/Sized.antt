@@ -1,20 +1,19 @@
 -- Every change of a part keeps the lengths of its arrays, whatever it is given.
 -- Assumes nothing.
-use mathlib.Core.Path.{_≡_, _∙_}
+use mathlib.Core.Path.{_≡_, ap, _∙_}
 use mathlib.Core.List.{List}
-use Prim.Native.Nat.{ℕ, suc, _+_, _*_, _%_, _<_}
+use Prim.Native.Nat.{ℕ, _+_, _*_, _<_}
 use native.Mathlib.Omega.{arith}
-use lib.ListN.{length, getD, set, replicate, length-set, length-replicate}
+use lib.ListN.{length, set, replicate, length-set, length-replicate}
 use lib.Seq.{length-sets}
-use Rattle.lists.specs.Lists.{times}
-use Rattle.lists.specs.Laws.UpTo.{length-map-upTo}
 use Rattle.frames.specs.declared.Frames.{Frames}
 use Rattle.frames.specs.Frames.{putSlot, pushed, popped, raised}
 use Rattle.kinds.specs.declared.Kinds.{Kinds}
 use Rattle.kinds.specs.Kinds.{withKind}
 use Rattle.regions.specs.declared.Regions.{Regions}
-use Rattle.regions.specs.Regions.{countAt, rolled, moved, withRegion, withoutRegions, withPage, withCounts, recount}
+use Rattle.regions.specs.Regions.{countAt, withRegion, withoutRegions, withPage, recount}
 use Rattle.regions.specs.Laws.Added.{count-new}
+use Rattle.regions.specs.Laws.Recount.{recount-beside, recount-length}
 use Rattle.regions.specs.Laws.Removed.{cleared-length}
 use Rattle.pages.specs.declared.Pages.{Pages}
 use Rattle.pages.specs.Pages.{pageCount, withTaken, freed}
@@ -77,15 +76,16 @@ module _ (r : Regions) (h : RegionsSized r) where
   }
 
   pub recount-sized : (come gone : List ℕ) → RegionsSized (recount r come gone)
-  unfolding recount withCounts moved rolled
-  recount-sized come gone = record {
-    names = h .names;
-    parents = h .parents;
-    levels = h .levels;
-    counts = length-map-upTo (λ i. (getD (r .counts) i 0 + times (suc i) come + times (suc i) gone * 4294967295) % 4294967296) 64;
-    newest = h .newest;
-    oldest = h .oldest;
-  }
+  recount-sized come gone =
+      let b = recount-beside r come gone in
+      record {
+        names = ap length (b .names) ∙ h .names;
+        parents = ap length (b .parents) ∙ h .parents;
+        levels = ap length (b .levels) ∙ h .levels;
+        counts = recount-length r come gone;
+        newest = ap length (b .newest) ∙ h .newest;
+        oldest = ap length (b .oldest) ∙ h .oldest;
+      }
 
 module _ (p : Pages) (h : PagesSized p) where
   pub with-taken : (j t n : ℕ) → PagesSized (withTaken p j t n)

@@ -3,7 +3,7 @@
 use mathlib.Core.Path.{_≡_, ap, ap₂, _∙_}
 use mathlib.Core.Bool.{true, false}
 use mathlib.Core.List.{List, []}
-use Prim.Native.Nat.{ℕ, suc, _+_, _-_, _<_}
+use Prim.Native.Nat.{ℕ, _+_, _-_, _<_}
 use native.Mathlib.Numerals.{add-one}
 use native.Mathlib.Omega.{arith}
 use lib.Dec.{eqb}
@@ -20,8 +20,7 @@ use Rattle.model.specs.Laws.Slots.{Known, slot-known, object-valid}
 use Rattle.frames.specs.Frames.{frameCount}
 use Rattle.regions.specs.declared.Regions.{Regions}
 use Rattle.regions.specs.Regions.{entryOf, tagOf, countAt, recount}
-use Rattle.regions.specs.Laws.Counts.{rolled-exact}
-use Rattle.regions.specs.Laws.Recount.{recount-at}
+use Rattle.regions.specs.Laws.Recount.{recount-exact}
 use Rattle.pages.specs.declared.Pages.{Pages}
 use Rattle.pages.specs.Pages.{ownerOf}
 use Rattle.outcomes.specs.Store.{Store, frames, regions, pages, slotTargets, slotsBeyondIn, slotsBeyond}
@@ -34,9 +33,7 @@ use Rattle.refinement.specs.Laws.Reads.{frame-count, home-named, owner-i
 pub count-is : {L : Model} {sp : List ℕ} {g : Regions} (a : RegionsAgree L sp g) (r : ℕ) → livesIn L r ≡ true → (come gone : List ℕ) (n : ℕ)
     → n + times (tagOf g r) gone ≡ countAt g (entryOf g r) + times (tagOf g r) come → n < 4294967296 → countAt (recount g come gone) (entryOf g r) ≡ n
 unfolding tagOf
-count-is {g = g} a r l come gone n e h =
-    recount-at g come gone (entryOf g r) (entry-in a r l)
-    ∙ rolled-exact (countAt g (entryOf g r)) (times (suc (entryOf g r)) come) (times (suc (entryOf g r)) gone) n (rw (add-one (entryOf g r)) at e) h
+count-is {g = g} a r l come gone n e h = recount-exact g come gone (entryOf g r) n (entry-in a r l) (rw (add-one (entryOf g r)) at e) h
 
 -- a word that is no data, of an object of a live region, is null or leads to such an object
 pub word-known : (L : Model) → Valid L → (q w : ℕ) → Alive L q → w < length (wordsIn L q) → eqb (getD (marks (L .kinds) ((object (L .objects) q) .kind)) w 0) 0 ≡ false → Known L (getD (wordsIn L q) w 0)

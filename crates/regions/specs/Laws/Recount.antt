@@ -1,12 +1,16 @@
 -- The laws by which everything else knows a change of stored counts (Regions, `recount`): what a count is afterwards, and that nothing else of the regions changes.
+-- What is left of the array of counts itself stands at the end: its shape, and that counts changed in place are those of `recount`.
 -- Assumes nothing.
 use mathlib.Core.Path.{_≡_, refl, ap, _∙_}
-use mathlib.Core.List.{List, [], append-nil}
-use Prim.Native.Nat.{ℕ, suc, _<_}
-use Rattle.lists.specs.Lists.{times}
+use mathlib.Core.Logic.{inl}
+use mathlib.Core.List.{List, [], _∷_, append-nil}
+use Prim.Native.Nat.{ℕ, suc, _+_, _<_}
+use lib.ListN.{length}
+use Rattle.lists.specs.Lists.{All, times}
+use Rattle.lists.specs.Laws.Kept.{all-places}
 use Rattle.regions.specs.declared.Regions.{Regions}
 use Rattle.regions.specs.Regions.{countAt, withCounts, rolled, moved, recount}
-use Rattle.regions.specs.Laws.Counts.{Counts, moved-at, moved-counts, moved-moved}
+use Rattle.regions.specs.Laws.Counts.{Counts, rolled-exact, moved-length, moved-at, moved-counts, moved-moved, moved-come-skip, moved-gone-skip}
 use Rattle.regions.specs.Laws.Steps.{steps, enterings, leavings, enterings-moved, leavings-moved}
 
 -- h is g but for the stored counts
@@ -21,13 +25,36 @@ pub record Beside (g h : Regions) : Type 0 where
 pub beside-same : (g : Regions) → Beside g g
 beside-same g = record { given = refl; names = refl; parents = refl; levels = refl; newest = refl; oldest = refl }
 
-pub recount-beside : (g : Regions) (come gone : List ℕ) → Beside g (recount g come gone)
-unfolding recount withCounts
-recount-beside g come gone = record { given = refl; names = refl; parents = refl; levels = refl; newest = refl; oldest = refl }
+module _ (g : Regions) (come gone : List ℕ) where
+  pub recount-beside : Beside g (recount g come gone)
+  unfolding recount withCounts
+  recount-beside = record { given = refl; names = refl; parents = refl; levels = refl; newest = refl; oldest = refl }
 
-pub recount-at : (g : Regions) (come gone : List ℕ) (i : ℕ) → i < 64 → countAt (recount g come gone) i ≡ rolled (countAt g i) (times (suc i) come) (times (suc i) gone)
-unfolding recount withCounts countAt
-recount-at g come gone i h = moved-at (g .counts) come gone i h
+  pub recount-at : (i : ℕ) → i < 64 → countAt (recount g come gone) i ≡ rolled (countAt g i) (times (suc i) come) (times (suc i) gone)
+  unfolding recount withCounts countAt
+  recount-at i h = moved-at (g .counts) come gone i h
+
+  -- a count is n afterwards, if n is what was kept with what came and without what went
+  pub recount-exact : (i n : ℕ) → i < 64 → n + times (suc i) gone ≡ countAt g i + times (suc i) come → n < 4294967296 → countAt (recount g come gone) i ≡ n
+  recount-exact i n l e h = recount-at i l ∙ rolled-exact (countAt g i) (times (suc i) come) (times (suc i) gone) n e h
+
+  -- tag 0 is no region's: its pointers change nothing
+  pub recount-come-none : recount g (0 ∷ come) gone ≡ recount g come gone
+  unfolding recount
+  recount-come-none = ap (withCounts g) (moved-come-skip (g .counts) come gone 0 (inl refl))
+
+  pub recount-gone-none : recount g come (0 ∷ gone) ≡ recount g come gone
+  unfolding recount
+  recount-gone-none = ap (withCounts g) (moved-gone-skip (g .counts) come gone 0 (inl refl))
+
+  -- the array afterwards is one of 64 numbers of 32 bits
+  pub recount-length : length ((recount g come gone) .counts) ≡ 64
+  unfolding recount withCounts
+  recount-length = moved-length (g .counts) come gone
+
+  pub recount-below : All (λ x. x < 4294967296) ((recount g come gone) .counts)
+  unfolding recount withCounts
+  recount-below = all-places (λ x. x < 4294967296) (moved (g .counts) come gone) 0 (λ i l. moved-counts (g .counts) come gone .1 i)
 
 -- the counts changed in place, one pointer after the other, are those of `recount`: pointers that leave, and others that enter after them
 module _ (g : Regions) (fits : Counts (g .counts)) where

@@ -4,14 +4,14 @@
 use mathlib.Core.Path.{_≡_, refl, sym, ap, _∙_}
 use mathlib.Core.Logic.{_⊎_, inl, inr, _≢_}
 use mathlib.Core.List.{List, [], _∷_, _++_}
-use Prim.Native.Nat.{ℕ, _+_, _-_, _%_}
+use Prim.Native.Nat.{ℕ, suc, _+_, _-_, _%_, _<_}
 use lib.Dec.{eqb}
 use lib.ListN.{length, getD, set, length-set}
 use borrow.Author.Tests.{ne-eqb}
-use Rattle.lists.specs.Lists.{pick}
+use Rattle.lists.specs.Lists.{pick, times}
 use Rattle.lists.specs.Laws.Tests.{by-same, by-test}
 use Rattle.regions.specs.Regions.{moved}
-use Rattle.regions.specs.Laws.Counts.{Counts, entered, left, moved-none, moved-moved, moved-counts, moved-come-skip, moved-gone-skip}
+use Rattle.regions.specs.Laws.Counts.{Counts, rolled-zero, entered, left, moved-none, moved-moved, moved-at, moved-counts, moved-come-skip, moved-gone-skip}
 
 -- the count of the region with tag t and d more, modulo 2^32; tag 0 is no region's
 unfoldable pub stepped : ℕ → List ℕ → ℕ → List ℕ
@@ -80,3 +80,8 @@ leavings-moved cs (t ∷ ts) h =
     ap (λ c. leavings c ts) (leave-moved cs t h)
     ∙ leavings-moved (moved cs [] (t ∷ [])) ts (moved-counts cs [] (t ∷ []))
     ∙ moved-moved cs [] (t ∷ []) [] ts
+
+-- once the pointers of a list have left them, a count is 0 exactly if it was the number of those of its region
+pub leavings-zero : (cs ts : List ℕ) → Counts cs → (i : ℕ) → i < 64 → times (suc i) ts < 4294967296
+    → (getD (leavings cs ts) i 0 ≡ 0 → getD cs i 0 ≡ times (suc i) ts) × (getD cs i 0 ≡ times (suc i) ts → getD (leavings cs ts) i 0 ≡ 0)
+leavings-zero cs ts h i l k = rw (leavings-moved cs ts h, moved-at cs [] ts i l) (rolled-zero (getD cs i 0) (times (suc i) ts) (h .1 i) k)
