@@ -10,10 +10,12 @@ use Rattle.lists.specs.Lists.{every, equal, upTo}
 use Rattle.model.specs.Model.{delete}
 use Rattle.frames.specs.Frames.{frameCount, topFrame, widthAt, slotAt, raised}
 use Rattle.kinds.specs.Kinds.{kindCount, sizeOf, markAt, sizeIn}
-use Rattle.regions.specs.Regions.{nameAt, entryOf, tagOf, isLive, parentAt, subregionsOf, countAt, withoutRegions, withCounts, rolled, moved, entryIn, subregionsIn, recount}
-use Rattle.pages.specs.Pages.{wrongLength, pageCount, ownerAt, takenAt, ownerIn, ownerOf, freed, wrongLengthIn, ownersTo}
+use Rattle.regions.specs.Regions.{nameAt, nameOf, nameIn, entryOf, tagOf, isLive, parentAt, levelAt, newestAt, oldestAt, subregionsOf, countAt, withoutRegions, withCounts, rolled, moved, entryIn, subregionsIn, recount}
+use Rattle.pages.specs.Pages.{wrongLength, pageCount, isFree, ownerAt, takenAt, ownerIn, ownerOf, freed, wrongLengthIn, ownersTo}
 use Rattle.objects.specs.Objects.{walk, headersTo, headersOn, freeWords, freeWordsOn, freeWordsOf, outOf}
 use Rattle.outcomes.specs.Store.{Store, frames, regions, pages, ledInto, slotTargets, targetsIn, ledIn}
+use Rattle.outcomes.specs.History.{entries, listedRegions, listedKinds, listedFrames, listedHeld, listedFree, metOn, begin, slotsOf, pointersOf, leads, homeOf, slotsLeadingTo, wordsLeadingTo, outside, uncountedInto, storedCount, countsExact, slotsLead, wordsLead, pagesHeld}
+use Rattle.outcomes.specs.Sound.{filled, placed, newestOwn, oldestOwn, sound}
 use Rattle.outcomes.specs.Outcome.{badLength, dead, checks, refusal, recounted, outgoing, newlyCounted, newlyIn, deleted, store, blank}
 use Rattle.outcomes.specs.Examples.{_but_, setStanding, setWidths, setSlots, setDeclared, setSizes, setMarks, setGiven, setNames, setParents, setLevels, setCounts, setNewest, setOldest, setOwners, setTaken}
 
@@ -62,7 +64,7 @@ goes = refl
 
 -- the audit accepts the memory with the two regions, and what is left without them, in either order; no word of the heap changed
 exact : every sound (linked ∷ deleted linked (2 ∷ 3 ∷ []) ∷ deleted linked (3 ∷ 2 ∷ []) ∷ []) ≡ true
-unfolding blank
+unfolding blank frameCount topFrame widthAt slotAt raised kindCount sizeOf markAt nameAt entryOf tagOf countAt withoutRegions withCounts rolled moved pageCount ownerAt takenAt ownerIn ownerOf freed walk headersTo headersOn freeWords freeWordsOn outOf slotTargets recounted outgoing newlyCounted deleted sizeIn entryIn recount targetsIn newlyIn freeWordsOf ownersTo nameOf parentAt levelAt newestAt oldestAt isFree entries listedRegions listedKinds listedFrames listedHeld listedFree metOn begin slotsOf pointersOf leads homeOf slotsLeadingTo wordsLeadingTo outside uncountedInto storedCount countsExact slotsLead wordsLead pagesHeld filled placed newestOwn oldestOwn nameIn sound
 exact = refl
 
 stays : (deleted linked (2 ∷ 3 ∷ [])) .heap ≡ linked .heap
