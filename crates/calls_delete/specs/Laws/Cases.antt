@@ -46,32 +46,31 @@ linked =
 abbrev reads : Store → List (List ℕ)
 reads S = map (countAt (regions S)) (upTo 4) ∷ map (nameAt (regions S)) (upTo 4) ∷ map (ownerAt (pages S)) (upTo 4) ∷ ((frames S) .counted ∷ []) ∷ []
 
--- what is read after a delete, and what it has to be
-abbrev left : List (List (List ℕ) × List (List ℕ))
+-- memories, and what is read in each of them
+abbrev left : List (List Store × List (List ℕ))
 left =
     -- one pointer into region 1 went with the page, two came with the frames that are counted now; the same with a subregion in the list, which has no page
-    (reads (deleted (memory 0 0 0) (2 ∷ [])), (2 ∷ 0 ∷ 0 ∷ 0 ∷ []) ∷ (1 ∷ 0 ∷ 0 ∷ 0 ∷ []) ∷ (1 ∷ 0 ∷ 0 ∷ 0 ∷ []) ∷ (2 ∷ []) ∷ [])
-    ∷ (reads (deleted (memory 0 0 3) (2 ∷ 3 ∷ [])), (2 ∷ 0 ∷ 0 ∷ 0 ∷ []) ∷ (1 ∷ 0 ∷ 0 ∷ 0 ∷ []) ∷ (1 ∷ 0 ∷ 0 ∷ 0 ∷ []) ∷ (2 ∷ []) ∷ [])
-    -- two regions that lead into each other: one pointer into region 1 went with region 2, one into region 4 with region 3, and two into it came with the lower frame
-    ∷ (reads linked, (2 ∷ 1 ∷ 1 ∷ 2 ∷ []) ∷ (1 ∷ 2 ∷ 3 ∷ 4 ∷ []) ∷ (1 ∷ 2 ∷ 3 ∷ 4 ∷ []) ∷ (0 ∷ []) ∷ [])
-    ∷ (reads (deleted linked (2 ∷ 3 ∷ [])), (1 ∷ 0 ∷ 0 ∷ 3 ∷ []) ∷ (1 ∷ 0 ∷ 0 ∷ 4 ∷ []) ∷ (1 ∷ 0 ∷ 0 ∷ 4 ∷ []) ∷ (1 ∷ []) ∷ [])
-    ∷ (reads (deleted linked (3 ∷ 2 ∷ [])), (1 ∷ 0 ∷ 0 ∷ 3 ∷ []) ∷ (1 ∷ 0 ∷ 0 ∷ 4 ∷ []) ∷ (1 ∷ 0 ∷ 0 ∷ 4 ∷ []) ∷ (1 ∷ []) ∷ [])
+    (deleted (memory 0 0 0) (2 ∷ []) ∷ deleted (memory 0 0 3) (2 ∷ 3 ∷ []) ∷ [], (2 ∷ 0 ∷ 0 ∷ 0 ∷ []) ∷ (1 ∷ 0 ∷ 0 ∷ 0 ∷ []) ∷ (1 ∷ 0 ∷ 0 ∷ 0 ∷ []) ∷ (2 ∷ []) ∷ [])
+    -- two regions that lead into each other, in either order: one pointer into region 1 went with region 2, one into region 4 with region 3, and two into it came with the lower frame
+    ∷ (linked ∷ [], (2 ∷ 1 ∷ 1 ∷ 2 ∷ []) ∷ (1 ∷ 2 ∷ 3 ∷ 4 ∷ []) ∷ (1 ∷ 2 ∷ 3 ∷ 4 ∷ []) ∷ (0 ∷ []) ∷ [])
+    ∷ (deleted linked (2 ∷ 3 ∷ []) ∷ deleted linked (3 ∷ 2 ∷ []) ∷ [], (1 ∷ 0 ∷ 0 ∷ 3 ∷ []) ∷ (1 ∷ 0 ∷ 0 ∷ 4 ∷ []) ∷ (1 ∷ 0 ∷ 0 ∷ 4 ∷ []) ∷ (1 ∷ []) ∷ [])
     ∷ []
 
-goes : every (λ p. equal (equal eqb) (p .0) (p .1)) left ≡ true
+goes : every (λ p. every (λ S. equal (equal eqb) (reads S) (p .1)) (p .0)) left ≡ true
 unfolding blank frameCount topFrame widthAt slotAt raised kindCount sizeOf markAt nameAt entryOf tagOf countAt withoutRegions withCounts rolled moved pageCount ownerAt takenAt ownerIn ownerOf freed walk headersTo headersOn freeWords freeWordsOn outOf slotTargets recounted outgoing newlyCounted deleted sizeIn entryIn recount targetsIn newlyIn freeWordsOf ownersTo
 goes = refl
 
--- the audit accepts the memory with the two regions, and what is left without them, in either order; no word of the heap changed
+-- the audit accepts the memory with the two regions, and what is left without them
 exact : every sound (linked ∷ deleted linked (2 ∷ 3 ∷ []) ∷ deleted linked (3 ∷ 2 ∷ []) ∷ []) ≡ true
 unfolding blank frameCount topFrame widthAt slotAt raised kindCount sizeOf markAt nameAt entryOf tagOf countAt withoutRegions withCounts rolled moved pageCount ownerAt takenAt ownerIn ownerOf freed walk headersTo headersOn freeWords freeWordsOn outOf slotTargets recounted outgoing newlyCounted deleted sizeIn entryIn recount targetsIn newlyIn freeWordsOf ownersTo nameOf parentAt levelAt newestAt oldestAt isFree entries listedRegions listedKinds listedFrames listedHeld listedFree metOn begin slotsOf pointersOf leads homeOf slotsLeadingTo wordsLeadingTo outside uncountedInto storedCount countsExact slotsLead wordsLead pagesHeld filled placed newestOwn oldestOwn nameIn sound
 exact = refl
 
-stays : (deleted linked (2 ∷ 3 ∷ [])) .heap ≡ linked .heap
-unfolding deleted recounted
-stays = refl
+-- no word of the heap changed, and no page has more or fewer words taken
+stays : let S = deleted linked (2 ∷ 3 ∷ []) in (S .heap ≡ linked .heap) × ((pages S) .taken ≡ (pages linked) .taken)
+unfolding deleted recounted freed
+stays = (refl, refl)
 
--- nothing in the way; a slot of the top frame; a stored count; a subregion; a subregion and both kinds of pointer; a region that leads back, so that neither could go first
-refusals : map (λ S. refusal S (delete 2)) (memory 0 0 0 ∷ memory 65 0 0 ∷ memory 0 1 0 ∷ memory 0 0 3 ∷ memory 65 1 3 ∷ linked ∷ []) ≡ 0 ∷ 19 ∷ 19 ∷ 18 ∷ 18 ∷ 19 ∷ []
+-- nothing in the way; a slot of the top frame; a stored count; a subregion; a subregion and both kinds of pointer; two regions that lead into each other
+refusals : map (λ (p : Store × ℕ). refusal (p .0) (delete (p .1))) ((memory 0 0 0, 2) ∷ (memory 65 0 0, 2) ∷ (memory 0 1 0, 2) ∷ (memory 0 0 3, 2) ∷ (memory 65 1 3, 2) ∷ (linked, 2) ∷ (linked, 3) ∷ []) ≡ 0 ∷ 19 ∷ 19 ∷ 18 ∷ 18 ∷ 19 ∷ 19 ∷ []
 unfolding blank frameCount widthAt slotAt nameAt entryOf tagOf isLive parentAt subregionsOf countAt wrongLength ownerIn ownerOf ledInto badLength dead checks refusal entryIn subregionsIn wrongLengthIn ledIn targetsIn
 refusals = refl

@@ -68,14 +68,13 @@ reads h =
     map (λ g. g .name) (h .regions) ∷ map (λ o. o .home) (h .objects) ∷ map (λ o. o .place) (h .objects) ∷ map (λ t. t .region) (h .held) ∷ map (λ t. t .page) (h .held)
     ∷ map (λ j. times j (h .free)) (upTo (h .pages)) ∷ (h .counted ∷ []) ∷ []
 
--- what is computed, and what it has to be: regions 2 and 3 go with objects and holdings, in either order, and pages 1 and 2 are free once each; the rest stays
-abbrev together : List (List (List ℕ) × List (List ℕ))
+-- histories, and what is read in each of them: regions 2 and 3 go with objects and holdings, in either order, and pages 1 and 2 are free once each; the rest stays
+abbrev together : List (List History × List (List ℕ))
 together =
-    (reads four, (1 ∷ 2 ∷ 3 ∷ 4 ∷ []) ∷ (1 ∷ 2 ∷ 2 ∷ 3 ∷ 4 ∷ []) ∷ (0 ∷ 64 ∷ 67 ∷ 128 ∷ 192 ∷ []) ∷ (1 ∷ 2 ∷ 3 ∷ 4 ∷ []) ∷ (0 ∷ 1 ∷ 2 ∷ 3 ∷ []) ∷ (0 ∷ 0 ∷ 0 ∷ 0 ∷ 1 ∷ []) ∷ (0 ∷ []) ∷ [])
-    ∷ (reads (ended four (2 ∷ 3 ∷ [])), (1 ∷ 4 ∷ []) ∷ (1 ∷ 4 ∷ []) ∷ (0 ∷ 192 ∷ []) ∷ (1 ∷ 4 ∷ []) ∷ (0 ∷ 3 ∷ []) ∷ (0 ∷ 1 ∷ 1 ∷ 0 ∷ 1 ∷ []) ∷ (2 ∷ []) ∷ [])
-    ∷ (reads (ended four (3 ∷ 2 ∷ [])), (1 ∷ 4 ∷ []) ∷ (1 ∷ 4 ∷ []) ∷ (0 ∷ 192 ∷ []) ∷ (1 ∷ 4 ∷ []) ∷ (0 ∷ 3 ∷ []) ∷ (0 ∷ 1 ∷ 1 ∷ 0 ∷ 1 ∷ []) ∷ (2 ∷ []) ∷ [])
+    (four ∷ [], (1 ∷ 2 ∷ 3 ∷ 4 ∷ []) ∷ (1 ∷ 2 ∷ 2 ∷ 3 ∷ 4 ∷ []) ∷ (0 ∷ 64 ∷ 67 ∷ 128 ∷ 192 ∷ []) ∷ (1 ∷ 2 ∷ 3 ∷ 4 ∷ []) ∷ (0 ∷ 1 ∷ 2 ∷ 3 ∷ []) ∷ (0 ∷ 0 ∷ 0 ∷ 0 ∷ 1 ∷ []) ∷ (0 ∷ []) ∷ [])
+    ∷ (ended four (2 ∷ 3 ∷ []) ∷ ended four (3 ∷ 2 ∷ []) ∷ [], (1 ∷ 4 ∷ []) ∷ (1 ∷ 4 ∷ []) ∷ (0 ∷ 192 ∷ []) ∷ (1 ∷ 4 ∷ []) ∷ (0 ∷ 3 ∷ []) ∷ (0 ∷ 1 ∷ 1 ∷ 0 ∷ 1 ∷ []) ∷ (2 ∷ []) ∷ [])
     ∷ []
 
-pub together-computed : every (λ p. equal (equal eqb) (p .0) (p .1)) together ≡ true
+pub together-computed : every (λ p. every (λ h. equal (equal eqb) (reads h) (p .1)) (p .0)) together ≡ true
 unfolding opening born ended
 together-computed = refl

@@ -25,17 +25,19 @@ linked = after (fresh 5) calls
 abbrev reads : Model → List (List ℕ)
 reads L = (L .free ∷ L .counted ∷ []) ∷ map (λ g. g .name) (L .regions) ∷ map (stored L) (1 ∷ 4 ∷ []) ∷ []
 
--- what is computed, and what it has to be
-abbrev cases : List (List (List ℕ) × List (List ℕ))
-cases =
-    (reads linked, (1 ∷ 0 ∷ []) ∷ (1 ∷ 2 ∷ 3 ∷ 4 ∷ []) ∷ (2 ∷ 2 ∷ []) ∷ [])
-    -- regions 2 and 3 go: one pointer into region 1 with region 2, one into region 4 with region 3, and two into it come with the lower frame
-    ∷ (reads (removeRegions linked (2 ∷ 3 ∷ [])), (3 ∷ 1 ∷ []) ∷ (1 ∷ 4 ∷ []) ∷ (1 ∷ 3 ∷ []) ∷ [])
-    ∷ (reads (removeRegions linked (3 ∷ 2 ∷ [])), (3 ∷ 1 ∷ []) ∷ (1 ∷ 4 ∷ []) ∷ (1 ∷ 3 ∷ []) ∷ [])
-    -- the words of both that lead into each region
-    ∷ (map (fromRegions linked (2 ∷ 3 ∷ [])) (1 ∷ 2 ∷ 3 ∷ 4 ∷ []) ∷ [], (1 ∷ 1 ∷ 1 ∷ 1 ∷ []) ∷ [])
+-- models, and what is read in each of them
+abbrev left : List (List Model × List (List ℕ))
+left =
+    (linked ∷ [], (1 ∷ 0 ∷ []) ∷ (1 ∷ 2 ∷ 3 ∷ 4 ∷ []) ∷ (2 ∷ 2 ∷ []) ∷ [])
+    -- regions 2 and 3 go, in either order: one pointer into region 1 with region 2, one into region 4 with region 3, and two into it come with the lower frame
+    ∷ (removeRegions linked (2 ∷ 3 ∷ []) ∷ removeRegions linked (3 ∷ 2 ∷ []) ∷ [], (3 ∷ 1 ∷ []) ∷ (1 ∷ 4 ∷ []) ∷ (1 ∷ 3 ∷ []) ∷ [])
     ∷ []
 
-pub computed : every (λ p. equal (equal eqb) (p .0) (p .1)) cases ≡ true
-unfolding next refusal checks accepted fillSlot writeWord addRegion addObject grown removeRegions outside stored inWords inFrames fromObject allowed fromRegion fromRegions
+pub computed : every (λ p. every (λ L. equal (equal eqb) (reads L) (p .1)) (p .0)) left ≡ true
+unfolding next refusal checks accepted fillSlot writeWord addRegion addObject grown removeRegions outside stored inWords inFrames fromObject allowed
 computed = refl
+
+-- the words of both that lead into each region
+words-leave : map (fromRegions linked (2 ∷ 3 ∷ [])) (1 ∷ 2 ∷ 3 ∷ 4 ∷ []) ≡ 1 ∷ 1 ∷ 1 ∷ 1 ∷ []
+unfolding next refusal checks accepted fillSlot writeWord addRegion addObject grown allowed fromRegion fromRegions
+words-leave = refl
