@@ -1,9 +1,10 @@
 // The audit's tests of pointer words. Pointers are looked up among the headers that audit_heap ticked.
 ghost use mathlib.Core.Path.{_≡_};
+ghost use Rattle.objects.specs.Parts.{wordIn};
 ghost use Rattle.audit_heap.specs.Heap.{headAt};
 ghost use Rattle.audit_words.specs.Words.{wordHolds, wordsHold, objectsHold, pageHolds, pagesHold};
 
-// Whether a word with mark m that holds x is data, null, or leads to an object that the mark allows.
+// Whether word w of an object, with mark m, is data, null, or leads to an object that the mark allows. Data is not read.
 fn word_holds(
     heads: &[u8],
     names: &[u32],
@@ -11,13 +12,15 @@ fn word_holds(
     own: u32,
     above: u32,
     m: u32,
-    x: u32,
+    object: &[u32],
+    w: u32,
 ) -> bool
-    ensures { λ r. ⌜ r ≡ wordHolds (headAt (now (heads .entry))) (now (names .entry)) (now (owners .entry)) own above m x ⌝ }
+    ensures { λ r. ⌜ r ≡ wordHolds (headAt (now (heads .entry))) (now (names .entry)) (now (owners .entry)) own above m (wordIn (now (object .entry)) w) ⌝ }
 {
     if m == 0 {
         return true;
     }
+    let x = objects::word_at(object, w);
     if x == 0 {
         return true;
     }
@@ -44,15 +47,7 @@ fn words_hold(
     let mut w: u32 = 0;
     while w < n {
         let m = objects::mark_of(marks, object, w);
-        if !word_holds(
-            heads,
-            names,
-            owners,
-            own,
-            above,
-            m,
-            objects::word_at(object, w),
-        ) {
+        if !word_holds(heads, names, owners, own, above, m, object, w) {
             return false;
         }
         w += 1;

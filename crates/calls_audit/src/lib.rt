@@ -4,7 +4,7 @@ use state::State;
 ghost use mathlib.Core.Path.{_≡_};
 ghost use mathlib.Core.List.{[]};
 ghost use Rattle.model.specs.Model.{audit};
-ghost use Rattle.outcomes.specs.Shape.{Sized};
+ghost use Rattle.outcomes.specs.Shape.{Bits32, Sized, Shaped};
 ghost use Rattle.outcomes.specs.Outcome.{Outcome, answerOf, store};
 ghost use Rattle.calls_audit.specs.Passes.{heapFits, passesIn};
 
@@ -127,10 +127,11 @@ fn passes<'a>(
     )
 }
 
-// Document 01's call 22: 1 for memory that keeps the rules, else 0. The contract says too what demand 3 asks of audited memory beside that: the lengths of the state's arrays.
+// Document 01's call 22: 1 for memory that keeps the rules, else 0. The contract says too what demand 3 asks of audited memory beside that, the lengths of the state's arrays; and that the
+// memory is of the language's types where the heap's words are.
 // `state_shaped` does nothing: the types give those lengths, and that stored counts are below 2^32, so that the test of counts modulo 2^32 is one of equality.
 pub fn audit(s: State, heap: &[u32]) -> Reply
-    ensures { λ r. ⌜ Outcome audit (store s (now (heap .entry))) (answerOf r []) (store s (now (heap .entry))) × Sized (store s (now (heap .entry))) ⌝ }
+    ensures { λ r. ⌜ Outcome audit (store s (now (heap .entry))) (answerOf r []) (store s (now (heap .entry))) × Sized (store s (now (heap .entry))) × (Bits32 (now (heap .entry)) → Shaped (store s (now (heap .entry)))) ⌝ }
 {
     let k = s.kinds;
     let f = s.frames;

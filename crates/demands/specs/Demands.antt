@@ -23,7 +23,7 @@ use Rattle.demands.specs.Told.{opening, history}
 
 -- Demand 1. That each call is safe, ends and touches only what it is given is the gate's verdict on functions without a `requires`.
 -- Here, of every memory: a call has an outcome; it refuses by the first test that holds, and then changes no word; 21 comes first where the length is wrong, and is never given on audited memory;
--- the heap's length stays, and no word of it is written that the rules don't name; numbers keep their types' widths; audit; make.
+-- the heap's length stays, and no word of it is written that the rules don't name; memory of the language's types stays so; audit; make.
 unfoldable pub Demand1 : Type 0
 Demand1 = Total × Refusals × LengthFirst × SameLength × OnlyNamed × KeepsShape × AuditExact × Makes
 

@@ -57,10 +57,13 @@ pub fn write(heap: &mut [u32], v: u32, w: u32, x: u32)
     cells::store(heap, (v as usize) + (w as usize), x);
 }
 
-// How many words the object has; 0 where there is none, or it takes more than n words with its header.
+// How many words the object has; 0 where there is none, or it takes more than n words with its header. No word past those n decides it, and where no object fits none is read.
 pub fn fitting(declared: u32, sizes: &[u8], object: &[u32], n: usize) -> u32
     ensures { λ r. ⌜ r ≡ fitting declared (now (sizes .entry)) (now (object .entry)) n ⌝ }
 {
+    if n < 2 {
+        return 0;
+    }
     let s = word_count(declared, sizes, object);
     if 1 + (s as usize) <= n { s } else { 0 }
 }

@@ -13,7 +13,7 @@ use Rattle.regions.specs.Regions.{entryOf}
 use Rattle.outcomes.specs.Store.{Store, regions, slot, size}
 use Rattle.outcomes.specs.History.{History, begin}
 use Rattle.outcomes.specs.Sound.{sound, Sound}
-use Rattle.outcomes.specs.Shape.{Shaped}
+use Rattle.outcomes.specs.Shape.{Bits32, Shaped}
 use Rattle.outcomes.specs.Outcome.{Outcome, MakeOutcome, refusal, badLength, store, startOn, allocated}
 
 -- every call has an outcome on every memory
@@ -88,9 +88,11 @@ AuditExact =
 abbrev pub nothing : History
 nothing = record { kinds = []; frames = []; counted = 0; regions = []; objects = []; held = []; free = []; pages = 0 }
 
--- make: accepted, every word is 0 and the audit accepts; refused, no word is written, the state lists nothing, and the audit rejects it whatever heap it is asked of
+-- make: what it leaves is of the language's types where the heap that it is lent is; accepted, every word is 0 and the audit accepts; refused, no word is written, the state lists
+-- nothing, and the audit rejects it whatever heap it is asked of
 unfoldable pub Makes : Type 0
 Makes =
     (heap : List ℕ) (a : Answer) (T : Store) → MakeOutcome heap a T
-    → (makes (length heap) ≡ true → (a ≡ gives []) × (length (T .heap) ≡ length heap) × All (λ w. w ≡ 0) (T .heap) × Sound T)
+    → (Bits32 heap → Shaped T)
+    × (makes (length heap) ≡ true → (a ≡ gives []) × (length (T .heap) ≡ length heap) × All (λ w. w ≡ 0) (T .heap) × Sound T)
     × (makes (length heap) ≡ false → (a ≡ refusedBy 1) × (T .heap ≡ heap) × (begin T ≡ nothing) × ((other : List ℕ) → Sound (store (T .state) other) → ⊥))

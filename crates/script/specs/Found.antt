@@ -8,8 +8,8 @@ use Rattle.script.specs.Script.{tokens, front, ofClass}
 
 -- the next word from `at` on stands from `from` to `to`; there is none where that is empty
 pub record NextWord (l : List ℕ) (at from to : ℕ) : Type 0 where
-  pub none : to ≤ from → tokens (drop at l) ≡ []
-  pub some : from < to → tokens (drop at l) ≡ take (to - from) (drop from l) ∷ tokens (drop to l)
+  pub ends : to ≤ from → tokens (drop at l) ≡ []
+  pub follows : from < to → tokens (drop at l) ≡ take (to - from) (drop from l) ∷ tokens (drop to l)
   pub onward : at ≤ from
   pub within : to - from ≤ length l - from
 

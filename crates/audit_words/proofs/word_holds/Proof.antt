@@ -21,36 +21,40 @@ by-rule : (stands : ℕ → Bool) (names owners : List ℕ) (own above m x : ℕ
 unfolding wordHolds
 by-rule stands names owners own above m x a b c = rw (a, b, c)
 
--- the word is no data; the test of the place that it leads to
-pointer : (c : tie.Else1) → c .before .before .before .before .args .m ≢ 0
+-- the word is no data; what it holds; the test of the place that it leads to
+pointer : (c : tie.Else1) → c .before .before .before .before .before .args .m ≢ 0
 pointer c e = omega arith
 
-stands : (c : tie.After-stands-at) → let a = c .before .before .before .before .before .before .args in headAt (a .heads .now) (a .x - 1) ≡ c .stands-at .result
+stands : (c : tie.After-stands-at) → let x = c .before .before in let a = x .before .before .before .before .before .before .args in headAt (a .heads .now) (x .word-at .result - 1) ≡ c .stands-at .result
 stands c = sym (c .stands-at .ensures)
 
 returns : tie.Need-returns
 unfolding wordHolds
-returns c = simp (eq-eqb (c .before .before .before .before .args .m) 0 (omega arith))
+returns c = simp (eq-eqb (c .before .before .before .before .before .args .m) 0 (omega arith))
 
 returns-2 : tie.Need-returns-2
 unfolding wordHolds
-returns-2 c = simp (ne-eqb _ _ (pointer (c .before)), eq-eqb _ _ (c .if2 .taken))
+returns-2 c = rw (← c .before .word-at .ensures) (simp (ne-eqb _ _ (pointer (c .before .before)), eq-eqb _ _ (c .if2 .taken)))
 
 returns-3 : tie.Need-returns-3
 unfolding wordHolds
 returns-3 c =
-    let x = c .before .before in
-    rw (stands (c .before)) (simp (ne-eqb _ _ (pointer (x .before)), ne-eqb _ _ (x .if2 .left), not-true (c .before .stands-at .result) (c .if3 .taken)))
+    let i = c .before .before in
+    let x = i .before in
+    rw (← x .word-at .ensures, stands (c .before)) (simp (ne-eqb _ _ (pointer (x .before)), ne-eqb _ _ (i .if2 .left), not-true (c .before .stands-at .result) (c .if3 .taken)))
 
 returns-4 : tie.Need-returns-4
 returns-4 c =
     let o = c .before .before in
     let t = o .before in
-    let x = t .before .before in
-    let a = x .before .before .before .before .before .args in
+    let i = t .before .before in
+    let x = i .before in
+    let a = x .before .before .before .before .before .before .args in
+    let v = x .word-at .result in
     c .allows .ensures
     ∙ ap (λ n. rule (a .m) n (a .own) (a .above)) (c .before .name-of .ensures ∙ ap (nameIn (a .names .now)) (o .owner-of .ensures))
-    ∙ by-rule (headAt (a .heads .now)) (a .names .now) (a .owners .now) (a .own) (a .above) (a .m) (a .x) (ne-eqb _ _ (pointer (x .before))) (ne-eqb _ _ (x .if2 .left)) (stands (t .before) ∙ not-false (t .before .stands-at .result) (t .if3 .left))
+    ∙ by-rule (headAt (a .heads .now)) (a .names .now) (a .owners .now) (a .own) (a .above) (a .m) v (ne-eqb _ _ (pointer (x .before))) (ne-eqb _ _ (i .if2 .left)) (stands (t .before) ∙ not-false (t .before .stands-at .result) (t .if3 .left))
+    ∙ ap (wordHolds (headAt (a .heads .now)) (a .names .now) (a .owners .now) (a .own) (a .above) (a .m)) (x .word-at .ensures)
 
 pub word-holds-spec : {M : Type 1} → statement M
-word-holds-spec = tie.close (tie.spec returns returns-2 (λ c. search needs) (λ c κs. search needs) returns-3 (λ c κs. search needs) (λ c κs. search needs) (λ c κs. search needs) returns-4)
+word-holds-spec = tie.close (tie.spec returns (λ c κs. search needs) returns-2 (λ c. search needs) (λ c κs. search needs) returns-3 (λ c κs. search needs) (λ c κs. search needs) (λ c κs. search needs) returns-4)

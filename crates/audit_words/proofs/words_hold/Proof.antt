@@ -24,17 +24,17 @@ loop-holds c = passed-none _ _
 returns : tie.Need-returns Inv-loop μ-loop
 unfolding wordsHold
 returns c =
-    let m = c .before .before .before in
+    let m = c .before .before in
     let l = m .before .before in
     passed-not _ (l .before .before .before .before .before .before .args .n) (l .loop .w) (omega arith)
-    (rw (← m .mark-of .ensures, ← c .before .before .word-at .ensures, ← c .before .word-holds .ensures) (not-true (c .before .word-holds .result) (c .if1 .taken)))
+    (rw (← m .mark-of .ensures, ← c .before .word-holds .ensures) (not-true (c .before .word-holds .result) (c .if1 .taken)))
 
 loop-again : tie.Need-loop-again Inv-loop μ-loop
 loop-again c =
-    let m = c .before .before .before in
+    let m = c .before .before in
     let l = m .before .before in
     passed-more _ _ (l .loop .w) (l .loop .inv) (omega arith)
-    (rw (← m .mark-of .ensures, ← c .before .before .word-at .ensures, ← c .before .word-holds .ensures) (not-false (c .before .word-holds .result) (c .if1 .left)))
+    (rw (← m .mark-of .ensures, ← c .before .word-holds .ensures) (not-false (c .before .word-holds .result) (c .if1 .left)))
 
 returns-2 : tie.Need-returns-2 Inv-loop μ-loop
 unfolding wordsHold
@@ -47,7 +47,6 @@ words-hold-spec =
     Inv-loop
     μ-loop
     loop-holds
-    (λ c κs. search needs)
     (λ c κs. search needs)
     (λ c κs. search needs)
     returns

@@ -10,7 +10,7 @@ use Rattle.lists.specs.Laws.All.{all-at}
 use Rattle.model.specs.Model.{Answer, audit, gives}
 use Rattle.state.specs.declared.State.{State}
 use Rattle.outcomes.specs.Store.{Store}
-use Rattle.outcomes.specs.Shape.{Sized, Shaped}
+use Rattle.outcomes.specs.Shape.{Bits32, Sized, Shaped}
 use Rattle.outcomes.specs.Outcome.{Outcome, refusal, checks, Accepted, store}
 use Rattle.outcomes.specs.Laws.Steps.{by-effect}
 use Rattle.calls_audit.specs.Passes.{passes}
@@ -23,15 +23,17 @@ unfolding refusal checks
 never-refused S = refl
 
 -- what the tests come to is the answer; the types give the lengths and the size of counts, of the state alone
-answers : (s : State) (heap : List ℕ) (r : Answer) (p b : Bool) → Shaped (store s []) → p ≡ passes s heap → p ≡ b → r ≡ gives (bit b ∷ 0 ∷ 0 ∷ 0 ∷ [])
-    → Outcome audit (store s heap) r (store s heap) × Sized (store s heap)
+answers : (s : State) (heap : List ℕ) (r : Answer) (p b : Bool) → ((l : List ℕ) → Bits32 l → Shaped (store s l)) → p ≡ passes s heap → p ≡ b → r ≡ gives (bit b ∷ 0 ∷ 0 ∷ 0 ∷ [])
+    → Outcome audit (store s heap) r (store s heap) × Sized (store s heap) × (Bits32 heap → Shaped (store s heap))
 unfolding Accepted
-answers s heap r p b h q e g =
+answers s heap r p b types q e g =
+    let h = types [] tt in
     let l = h .sized in
     let S = store s heap in
     let c : (i : ℕ) → getD (s .regions .counts) i 0 < 4294967296 = λ i. all-at (λ x. x < 4294967296) (s .regions .counts) i 0 (h .bounded .inRegions .counts) (omega arith) in (
       by-effect audit S r S (never-refused S) (g ∙ ap (λ b. gives (bit b ∷ [])) (sym e ∙ q ∙ passes-same S (l .inRegions .names) (l .inRegions .counts, c)), refl),
       record { inFrames = l .inFrames; inKinds = l .inKinds; inRegions = l .inRegions; inPages = l .inPages },
+      types heap,
     )
 
 returns : tie.Need-returns
@@ -39,14 +41,14 @@ unfolding passes
 returns c =
     let s = c .before .before in
     let t = s .before .before .before in
-    answers _ _ _ _ true (s .state-shaped .ensures [] tt) (t .passes .ensures) (c .before .if1 .taken) (c .gives .ensures)
+    answers _ _ _ _ true (s .state-shaped .ensures) (t .passes .ensures) (c .before .if1 .taken) (c .gives .ensures)
 
 returns-2 : tie.Need-returns-2
 unfolding passes
 returns-2 c =
     let s = c .before .before in
     let t = s .before .before .before in
-    answers _ _ _ _ false (s .state-shaped .ensures [] tt) (t .passes .ensures) (c .before .if1 .left) (c .gives2 .ensures)
+    answers _ _ _ _ false (s .state-shaped .ensures) (t .passes .ensures) (c .before .if1 .left) (c .gives2 .ensures)
 
 pub audit-spec : {M : Type 1} → statement M
 audit-spec = tie.close (tie.spec (λ c. search needs) (λ c. search needs) (λ c κs. search needs) (λ c κs. search needs) (λ c κs. search needs) returns (λ c κs. search needs) returns-2)

@@ -18,7 +18,8 @@ use Rattle.regions.specs.declared.Regions.{Regions}
 use Rattle.regions.specs.Regions.{rolled, moved, withRegion, clearedAt, withoutRegions, withPage, withCounts, recount}
 use Rattle.pages.specs.declared.Pages.{Pages}
 use Rattle.pages.specs.Pages.{pageCount, ownerAt, withTaken, freed, ownersTo}
-use Rattle.outcomes.specs.Shape.{FramesBounded, KindsBounded, RegionsBounded, PagesBounded}
+use Rattle.outcomes.specs.Shape.{Bits32, FramesBounded, KindsBounded, RegionsBounded, PagesBounded, Bounded}
+use Rattle.outcomes.specs.Outcome.{store, blank}
 
 -- ---- lists of numbers below `top`
 
@@ -144,3 +145,29 @@ module _ (p : Pages) (h : PagesBounded p) where
         (λ j. pick-below (ltb j (pageCount p) && among (getD (p .owners) j 0) ts) 0 (getD (p .owners) j 0) 256 (omega arith) (below-at 256 (p .owners) j (omega arith) (h .owners)));
     taken = h .taken;
   }
+
+-- ---- what make leaves
+
+pub blank-bounded : (n r : ℕ) → n ≤ 256 → r ≤ 1 → (heap : List ℕ) → Bits32 heap → Bounded (store (blank n r) heap)
+unfolding blank
+blank-bounded n r most few heap h = record {
+  inFrames = record { standing = omega arith; counted = omega arith; widths = zeros 256 32 (omega arith); slots = zeros 4294967296 256 (omega arith) };
+  inKinds = record { declared = omega arith; sizes = zeros 256 16 (omega arith); marks = zeros 256 256 (omega arith) };
+  inRegions = record {
+    given = omega arith;
+    names = first 4294967296 (omega arith);
+    parents = zeros 256 64 (omega arith);
+    levels = first 256 (omega arith);
+    counts = zeros 4294967296 64 (omega arith);
+    newest = zeros 65536 64 (omega arith);
+    oldest = zeros 4294967296 64 (omega arith);
+  };
+  inPages = record { made = omega arith; owners = zeros 256 256 (omega arith); taken = zeros 256 256 (omega arith) };
+  heap = h;
+}
+  where
+    zeros : (top m : ℕ) → 0 < top → All (λ x. x < top) (replicate m 0)
+    zeros top m h = all-replicate (λ x. x < top) m 0 h
+
+    first : (top : ℕ) → 1 < top → All (λ x. x < top) (set (replicate 64 0) 0 r)
+    first top h = all-set (λ x. x < top) (replicate 64 0) 0 r (zeros top 64 (omega arith)) (omega arith)

@@ -24,7 +24,7 @@ returns : tie.Need-returns Inv-loop μ-loop
 returns c =
     let l = c .before .before .before in
     let a = l .before .before .args in
-    given-none (a .n) (l .loop .k) (l .loop .args) (omega arith) ∙ rw (c .before .word .ensures .none (c .if1 .taken)) at (l .loop .inv .2)
+    given-none (a .n) (l .loop .k) (l .loop .args) (omega arith) ∙ rw (c .before .word .ensures .ends (c .if1 .taken)) at (l .loop .inv .2)
 
 -- the word found is the next argument
 next : (c : tie.After-number Inv-loop μ-loop)
@@ -34,7 +34,7 @@ next : (c : tie.After-number Inv-loop μ-loop)
     ≡ given (a .n) (map value (tokens (drop (a .at) (a .s .now))))
 next c =
     rw (c .number .ensures)
-    (rw (c .before .before .before .word .ensures .some (c .before .before .if1 .left)) at (c .before .before .before .before .before .loop .inv .2))
+    (rw (c .before .before .before .word .ensures .follows (c .before .before .if1 .left)) at (c .before .before .before .before .before .loop .inv .2))
 
 returns-2 : tie.Need-returns-2 Inv-loop μ-loop
 unfolding line bad

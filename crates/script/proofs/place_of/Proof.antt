@@ -22,7 +22,7 @@ loop-holds c = (search needs, search needs, refl)
 
 returns : tie.Need-returns Inv-loop μ-loop
 unfolding placed
-returns c = rw (c .before .word .ensures .none (c .if1 .taken)) at (c .before .before .loop .inv .2)
+returns c = rw (c .before .word .ensures .ends (c .if1 .taken)) at (c .before .before .loop .inv .2)
 
 -- the word found stands first among those to come
 next : (c : tie.After-same Inv-loop μ-loop)
@@ -30,7 +30,7 @@ next : (c : tie.After-same Inv-loop μ-loop)
     let l = c .before .before .before .before in
     let a = l .before .before .before .args in
     placed (l .loop .n) (a .w .now) (take (p .to - p .from) (drop (p .from) (a .s .now)) ∷ tokens (drop (p .to) (a .s .now))) ≡ placed 1 (a .w .now) (tokens (a .s .now))
-next c = rw (c .before .before .before .word .ensures .some (c .before .before .if1 .left)) at (c .before .before .before .before .loop .inv .2)
+next c = rw (c .before .before .before .word .ensures .follows (c .before .before .if1 .left)) at (c .before .before .before .before .loop .inv .2)
 
 returns-2 : tie.Need-returns-2 Inv-loop μ-loop
 returns-2 c = placed-here _ _ _ _ (c .before .same .ensures .0 (c .if2 .taken)) ∙ next (c .before)

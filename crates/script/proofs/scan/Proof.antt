@@ -8,7 +8,7 @@ use Rattle.script.proofs.scan.Tie as tie
 
 returns : tie.Need-returns
 unfolding said scanned
-returns c = c .bare .ensures ∙ rw (c .before .before .word .ensures .none (c .before .if1 .taken))
+returns c = c .bare .ensures ∙ rw (c .before .before .word .ensures .ends (c .before .if1 .taken))
 
 -- the arguments' line, where it may stand
 meant : (c : tie.After-allowed)
@@ -17,7 +17,7 @@ meant : (c : tie.After-allowed)
 unfolding scanned
 meant c =
     let n = c .before .before .before in
-    rw (n .before .before .before .word .ensures .some (n .before .before .if1 .left))
+    rw (n .before .before .before .word .ensures .follows (n .before .before .if1 .left))
     (said-is _ _ _ _ _ (rw (n .call-of .ensures) at (c .before .before .arguments .ensures)) (c .allowed .ensures))
 
 returns-2 : tie.Need-returns-2

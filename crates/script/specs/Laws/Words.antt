@@ -108,8 +108,8 @@ tokens-word (b ∷ l) h = go (inWord b) refl (inWord (getD l 0 32)) refl h (toke
 pub next-word : (l : List ℕ) (at from to : ℕ) → from ≡ at + length (front (ofClass 0) (drop at l)) → to ≡ from + length (front (ofClass 1) (drop from l)) → NextWord l at from to
 unfolding ofClass
 next-word l at from to e f = record {
-  none = λ h. skipped ∙ tokens-none (drop from l) (rw (ap (λ n. drop n l) e ∙ sym (drop-drop _ at l)) (front-after blank (drop at l))) (omega arith);
-  some = λ h.
+  ends = λ h. skipped ∙ tokens-none (drop from l) (rw (ap (λ n. drop n l) e ∙ sym (drop-drop _ at l)) (front-after blank (drop at l))) (omega arith);
+  follows = λ h.
       let n : to - from ≡ length (front inWord (drop from l)) = omega arith in
       skipped ∙ rw (n, front-take inWord (drop from l), f, sym (drop-drop (length (front inWord (drop from l))) from l)) (tokens-word (drop from l) (omega arith));
   onward = omega arith;
