@@ -10,3 +10,4 @@ pub mod Next
 pub mod Counts
 pub mod Moves
 pub mod Paged
+pub mod Cases

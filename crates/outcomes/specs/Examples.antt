@@ -79,7 +79,7 @@ small = record {
   heap = hp;
 }
 
--- ---- a memory with one number or array of it changed
+-- ---- a memory with one number or array of it changed: `small but setCounts (..) but setOwners (..)`
 
 -- Each part is put together in one place. A number or array that the state gains later is handed on there, as S has it; it starts in `small`, and gets
 -- a function of its own here.
@@ -97,62 +97,62 @@ pagesBy S n o t = withPages S (record { made = n; owners = o; taken = t })
 
 -- a memory with a change made to it
 infixl 50 _but_
-abbrev _but_ : Store → (Store → Store) → Store
+abbrev pub _but_ : Store → (Store → Store) → Store
 S but f = f S
 
-abbrev standing : ℕ → Store → Store
-standing x S = let f = frames S in framesBy S x (f .counted) (f .widths) (f .slots)
+abbrev pub setStanding : ℕ → Store → Store
+setStanding x S = let f = frames S in framesBy S x (f .counted) (f .widths) (f .slots)
 
-abbrev counted : ℕ → Store → Store
-counted x S = let f = frames S in framesBy S (f .standing) x (f .widths) (f .slots)
+abbrev pub setCounted : ℕ → Store → Store
+setCounted x S = let f = frames S in framesBy S (f .standing) x (f .widths) (f .slots)
 
-abbrev widths : List ℕ → Store → Store
-widths x S = let f = frames S in framesBy S (f .standing) (f .counted) x (f .slots)
+abbrev pub setWidths : List ℕ → Store → Store
+setWidths x S = let f = frames S in framesBy S (f .standing) (f .counted) x (f .slots)
 
-abbrev slots : List ℕ → Store → Store
-slots x S = let f = frames S in framesBy S (f .standing) (f .counted) (f .widths) x
+abbrev pub setSlots : List ℕ → Store → Store
+setSlots x S = let f = frames S in framesBy S (f .standing) (f .counted) (f .widths) x
 
-abbrev declared : ℕ → Store → Store
-declared x S = let k = kinds S in kindsBy S x (k .sizes) (k .marks)
+abbrev pub setDeclared : ℕ → Store → Store
+setDeclared x S = let k = kinds S in kindsBy S x (k .sizes) (k .marks)
 
-abbrev sizes : List ℕ → Store → Store
-sizes x S = let k = kinds S in kindsBy S (k .declared) x (k .marks)
+abbrev pub setSizes : List ℕ → Store → Store
+setSizes x S = let k = kinds S in kindsBy S (k .declared) x (k .marks)
 
-abbrev marks : List ℕ → Store → Store
-marks x S = let k = kinds S in kindsBy S (k .declared) (k .sizes) x
+abbrev pub setMarks : List ℕ → Store → Store
+setMarks x S = let k = kinds S in kindsBy S (k .declared) (k .sizes) x
 
-abbrev given : ℕ → Store → Store
-given x S = let r = regions S in regionsBy S x (r .names) (r .parents) (r .levels) (r .counts) (r .newest) (r .oldest)
+abbrev pub setGiven : ℕ → Store → Store
+setGiven x S = let r = regions S in regionsBy S x (r .names) (r .parents) (r .levels) (r .counts) (r .newest) (r .oldest)
 
-abbrev names : List ℕ → Store → Store
-names x S = let r = regions S in regionsBy S (r .given) x (r .parents) (r .levels) (r .counts) (r .newest) (r .oldest)
+abbrev pub setNames : List ℕ → Store → Store
+setNames x S = let r = regions S in regionsBy S (r .given) x (r .parents) (r .levels) (r .counts) (r .newest) (r .oldest)
 
-abbrev parents : List ℕ → Store → Store
-parents x S = let r = regions S in regionsBy S (r .given) (r .names) x (r .levels) (r .counts) (r .newest) (r .oldest)
+abbrev pub setParents : List ℕ → Store → Store
+setParents x S = let r = regions S in regionsBy S (r .given) (r .names) x (r .levels) (r .counts) (r .newest) (r .oldest)
 
-abbrev levels : List ℕ → Store → Store
-levels x S = let r = regions S in regionsBy S (r .given) (r .names) (r .parents) x (r .counts) (r .newest) (r .oldest)
+abbrev pub setLevels : List ℕ → Store → Store
+setLevels x S = let r = regions S in regionsBy S (r .given) (r .names) (r .parents) x (r .counts) (r .newest) (r .oldest)
 
-abbrev counts : List ℕ → Store → Store
-counts x S = let r = regions S in regionsBy S (r .given) (r .names) (r .parents) (r .levels) x (r .newest) (r .oldest)
+abbrev pub setCounts : List ℕ → Store → Store
+setCounts x S = let r = regions S in regionsBy S (r .given) (r .names) (r .parents) (r .levels) x (r .newest) (r .oldest)
 
-abbrev newest : List ℕ → Store → Store
-newest x S = let r = regions S in regionsBy S (r .given) (r .names) (r .parents) (r .levels) (r .counts) x (r .oldest)
+abbrev pub setNewest : List ℕ → Store → Store
+setNewest x S = let r = regions S in regionsBy S (r .given) (r .names) (r .parents) (r .levels) (r .counts) x (r .oldest)
 
-abbrev oldest : List ℕ → Store → Store
-oldest x S = let r = regions S in regionsBy S (r .given) (r .names) (r .parents) (r .levels) (r .counts) (r .newest) x
+abbrev pub setOldest : List ℕ → Store → Store
+setOldest x S = let r = regions S in regionsBy S (r .given) (r .names) (r .parents) (r .levels) (r .counts) (r .newest) x
 
-abbrev made : ℕ → Store → Store
-made x S = let p = pages S in pagesBy S x (p .owners) (p .taken)
+abbrev pub setMade : ℕ → Store → Store
+setMade x S = let p = pages S in pagesBy S x (p .owners) (p .taken)
 
-abbrev owners : List ℕ → Store → Store
-owners x S = let p = pages S in pagesBy S (p .made) x (p .taken)
+abbrev pub setOwners : List ℕ → Store → Store
+setOwners x S = let p = pages S in pagesBy S (p .made) x (p .taken)
 
-abbrev taken : List ℕ → Store → Store
-taken x S = let p = pages S in pagesBy S (p .made) (p .owners) x
+abbrev pub setTaken : List ℕ → Store → Store
+setTaken x S = let p = pages S in pagesBy S (p .made) (p .owners) x
 
-abbrev heap : List ℕ → Store → Store
-heap x S = withHeap S x
+abbrev pub setHeap : List ℕ → Store → Store
+setHeap x S = withHeap S x
 
 -- ---- memories
 
@@ -174,85 +174,85 @@ abbrev pub examples : List Example
 examples =
     example small []
     -- a stored count one too low
-    ∷ example (small but counts (set ct 0 1)) (0 ∷ [])
+    ∷ example (small but setCounts (set ct 0 1)) (0 ∷ [])
     -- a stored count one too high
-    ∷ example (small but counts (set ct 2 3)) (0 ∷ [])
+    ∷ example (small but setCounts (set ct 2 3)) (0 ∷ [])
     -- a slot that leads to no header
-    ∷ example (small but slots (set sl 8 67)) (1 ∷ [])
+    ∷ example (small but setSlots (set sl 8 67)) (1 ∷ [])
     -- a slot that leads to a header on a free page
-    ∷ example (small but slots (set sl 8 129) but made 3 but owners (set ow 2 0) but taken (set tk 2 3) but heap (hp ++ (1 ∷ 0 ∷ 0 ∷ replicate 61 99))) (1 ∷ [])
+    ∷ example (small but setSlots (set sl 8 129) but setMade 3 but setOwners (set ow 2 0) but setTaken (set tk 2 3) but setHeap (hp ++ (1 ∷ 0 ∷ 0 ∷ replicate 61 99))) (1 ∷ [])
     -- a word marked 2 that leads nowhere
-    ∷ example (small but heap (set hp 68 66)) (2 ∷ [])
+    ∷ example (small but setHeap (set hp 68 66)) (2 ∷ [])
     -- a word marked 2 that leads to another region
-    ∷ example (small but heap (set hp 68 1)) (2 ∷ [])
+    ∷ example (small but setHeap (set hp 68 1)) (2 ∷ [])
     -- a word marked 3 that leads beyond the region above: region 5 at level 1 has none above
-    ∷ example (small but parents (set pa 2 0) but levels (set lv 2 1)) (2 ∷ [])
+    ∷ example (small but setParents (set pa 2 0) but setLevels (set lv 2 1)) (2 ∷ [])
     -- a word marked 4 that leads to region 5
-    ∷ example (small but heap (set hp 70 65)) (2 ∷ [])
+    ∷ example (small but setHeap (set hp 70 65)) (2 ∷ [])
     -- a page entered as neither: its entry is not in use. Its objects are then not live
-    ∷ example (small but owners (set ow 1 2)) (0 ∷ 1 ∷ 2 ∷ 3 ∷ 19 ∷ 20 ∷ [])
+    ∷ example (small but setOwners (set ow 1 2)) (0 ∷ 1 ∷ 2 ∷ 3 ∷ 19 ∷ 20 ∷ [])
     -- a third page, entered as neither
-    ∷ example (small but made 3 but owners (set ow 2 2) but taken (set tk 2 0) but heap (hp ++ replicate 64 99)) (3 ∷ [])
+    ∷ example (small but setMade 3 but setOwners (set ow 2 2) but setTaken (set tk 2 0) but setHeap (hp ++ replicate 64 99)) (3 ∷ [])
     -- no page made
-    ∷ example (small but standing 0 but counted 0 but counts none but newest none but oldest none but made 0 but heap []) (4 ∷ [])
+    ∷ example (small but setStanding 0 but setCounted 0 but setCounts none but setNewest none but setOldest none but setMade 0 but setHeap []) (4 ∷ [])
     -- 17 kinds: the last has no size
-    ∷ example (small but declared 17 but sizes (2 ∷ 3 ∷ 2 ∷ replicate 13 1) but marks (1 ∷ 0 ∷ replicate 14 77 ++ (2 ∷ 3 ∷ 4 ∷ replicate 237 0))) (5 ∷ 6 ∷ [])
+    ∷ example (small but setDeclared 17 but setSizes (2 ∷ 3 ∷ 2 ∷ replicate 13 1) but setMarks (1 ∷ 0 ∷ replicate 14 77 ++ (2 ∷ 3 ∷ 4 ∷ replicate 237 0))) (5 ∷ 6 ∷ [])
     -- a kind with no word
-    ∷ example (small but declared 4 but sizes (set sz 3 0)) (6 ∷ [])
+    ∷ example (small but setDeclared 4 but setSizes (set sz 3 0)) (6 ∷ [])
     -- a mark above 4
-    ∷ example (small but declared 4 but sizes (set sz 3 1) but marks (set mk 48 5)) (7 ∷ [])
+    ∷ example (small but setDeclared 4 but setSizes (set sz 3 1) but setMarks (set mk 48 5)) (7 ∷ [])
     -- 33 frames
-    ∷ example (small but standing 33 but widths (2 ∷ replicate 31 1) but slots (1 ∷ 65 ∷ replicate 6 0 ++ (68 ∷ replicate 247 0))) (8 ∷ [])
+    ∷ example (small but setStanding 33 but setWidths (2 ∷ replicate 31 1) but setSlots (1 ∷ 65 ∷ replicate 6 0 ++ (68 ∷ replicate 247 0))) (8 ∷ [])
     -- a frame of 9 slots
-    ∷ example (small but widths (set ws 1 9) but slots (1 ∷ 65 ∷ replicate 6 0 ++ (68 ∷ replicate 247 0))) (9 ∷ [])
+    ∷ example (small but setWidths (set ws 1 9) but setSlots (1 ∷ 65 ∷ replicate 6 0 ++ (68 ∷ replicate 247 0))) (9 ∷ [])
     -- a frame of no slot
-    ∷ example (small but widths (set ws 1 0)) (9 ∷ [])
+    ∷ example (small but setWidths (set ws 1 0)) (9 ∷ [])
     -- a name above 1,000,000 given
-    ∷ example (small but given 1000001) (11 ∷ [])
+    ∷ example (small but setGiven 1000001) (11 ∷ [])
     -- m not below the number of frames
-    ∷ example (small but counted 2 but counts (set ct 2 3)) (12 ∷ [])
+    ∷ example (small but setCounted 2 but setCounts (set ct 2 3)) (12 ∷ [])
     -- a heap that lacks its last word
-    ∷ example (small but heap (page0 ++ (1 ∷ 1 ∷ 42 ∷ 2 ∷ 65 ∷ 4 ∷ 1 ∷ replicate 56 99))) (13 ∷ [])
+    ∷ example (small but setHeap (page0 ++ (1 ∷ 1 ∷ 42 ∷ 2 ∷ 65 ∷ 4 ∷ 1 ∷ replicate 56 99))) (13 ∷ [])
     -- two entries with one name
-    ∷ example (small but names (set nm 3 5) but parents (set pa 3 1) but levels (set lv 3 2) but counts (set ct 3 0) but newest (set nw 3 0) but oldest (set ol 3 0)) (14 ∷ [])
+    ∷ example (small but setNames (set nm 3 5) but setParents (set pa 3 1) but setLevels (set lv 3 2) but setCounts (set ct 3 0) but setNewest (set nw 3 0) but setOldest (set ol 3 0)) (14 ∷ [])
     -- a name that was not given
-    ∷ example (small but given 4) (15 ∷ [])
+    ∷ example (small but setGiven 4) (15 ∷ [])
     -- a name that was not given, in the last entry
-    ∷ example (small but names (set nm 63 8) but parents (set pa 63 0) but levels (set lv 63 1) but counts (set ct 63 0) but newest (set nw 63 0) but oldest (set ol 63 0)) (15 ∷ [])
+    ∷ example (small but setNames (set nm 63 8) but setParents (set pa 63 0) but setLevels (set lv 63 1) but setCounts (set ct 63 0) but setNewest (set nw 63 0) but setOldest (set ol 63 0)) (15 ∷ [])
     -- region 1 under another name, the word marked 4 null
-    ∷ example (small but names (set nm 0 2) but heap (set hp 70 0)) (16 ∷ [])
+    ∷ example (small but setNames (set nm 0 2) but setHeap (set hp 70 0)) (16 ∷ [])
     -- a region above that is not in use, the word marked 3 null
-    ∷ example (small but parents (set pa 2 2) but levels (set lv 1 1) but heap (set hp 69 0)) (17 ∷ [])
+    ∷ example (small but setParents (set pa 2 2) but setLevels (set lv 1 1) but setHeap (set hp 69 0)) (17 ∷ [])
     -- a level two more than the one above
-    ∷ example (small but levels (set lv 2 3)) (17 ∷ [])
+    ∷ example (small but setLevels (set lv 2 3)) (17 ∷ [])
     -- 17 regions, each below the one before: level 17
-    ∷ example (small but standing 0 but counted 0 but given 17 but names chain but parents above but levels chain but counts (replicate 64 0) but newest (replicate 64 0) but oldest (replicate 64 0) but made 1 but owners (replicate 256 0) but heap (replicate 64 99)) (10 ∷ [])
+    ∷ example (small but setStanding 0 but setCounted 0 but setGiven 17 but setNames chain but setParents above but setLevels chain but setCounts (replicate 64 0) but setNewest (replicate 64 0) but setOldest (replicate 64 0) but setMade 1 but setOwners (replicate 256 0) but setHeap (replicate 64 99)) (10 ∷ [])
     -- a region with none above at level 2, the word marked 3 null
-    ∷ example (small but parents (set pa 2 0) but heap (set hp 69 0)) (17 ∷ [])
+    ∷ example (small but setParents (set pa 2 0) but setHeap (set hp 69 0)) (17 ∷ [])
     -- region 1 below region 5, the word marked 3 null
-    ∷ example (small but parents (3 ∷ 77 ∷ 0 ∷ replicate 61 77) but levels (2 ∷ 77 ∷ 1 ∷ replicate 61 77) but heap (set hp 69 0)) (17 ∷ [])
+    ∷ example (small but setParents (3 ∷ 77 ∷ 0 ∷ replicate 61 77) but setLevels (2 ∷ 77 ∷ 1 ∷ replicate 61 77) but setHeap (set hp 69 0)) (17 ∷ [])
     -- a page taken one word further than its objects reach
-    ∷ example (small but taken (set tk 0 7)) (18 ∷ [])
+    ∷ example (small but setTaken (set tk 0 7)) (18 ∷ [])
     -- an object that goes past what is taken: it is not met
-    ∷ example (small but slots (set sl 8 65) but taken (set tk 1 6)) (18 ∷ [])
+    ∷ example (small but setSlots (set sl 8 65) but setTaken (set tk 1 6)) (18 ∷ [])
     -- a newest page of another region
-    ∷ example (small but newest (set nw 2 1)) (19 ∷ [])
+    ∷ example (small but setNewest (set nw 2 1)) (19 ∷ [])
     -- a newest page past those made
-    ∷ example (small but newest (set nw 2 3) but owners (set ow 2 3)) (19 ∷ [])
+    ∷ example (small but setNewest (set nw 2 3) but setOwners (set ow 2 3)) (19 ∷ [])
     -- an oldest object of another region
-    ∷ example (small but oldest (set ol 2 1)) (20 ∷ [])
+    ∷ example (small but setOldest (set ol 2 1)) (20 ∷ [])
     -- an oldest object that is none
-    ∷ example (small but oldest (set ol 2 66)) (20 ∷ [])
+    ∷ example (small but setOldest (set ol 2 66)) (20 ∷ [])
     -- entries not in use may hold anything: other slots, marks, region entries, owners and taken words past the pages made, words past those taken
-    ∷ example (small but slots (set (set sl 2 1) 16 5) but marks (set mk 2 9) but parents (set pa 1 0) but levels (set lv 1 99) but counts (set ct 1 5) but owners (set ow 2 1) but taken (set tk 5 3) but heap (set (set hp 6 1) 127 65)) []
+    ∷ example (small but setSlots (set (set sl 2 1) 16 5) but setMarks (set mk 2 9) but setParents (set pa 1 0) but setLevels (set lv 1 99) but setCounts (set ct 1 5) but setOwners (set ow 2 1) but setTaken (set tk 5 3) but setHeap (set (set hp 6 1) 127 65)) []
     -- a region without newest page or oldest object entered
-    ∷ example (small but newest (set nw 2 0) but oldest (set ol 2 0)) []
+    ∷ example (small but setNewest (set nw 2 0) but setOldest (set ol 2 0)) []
     -- a newest page or oldest object that is its own, whichever
-    ∷ example (small but oldest (set ol 2 68)) []
+    ∷ example (small but setOldest (set ol 2 68)) []
     -- names given and gone
-    ∷ example (small but given 1000000) []
+    ∷ example (small but setGiven 1000000) []
     -- a third page, free, whose taken words are not read
-    ∷ example (small but made 3 but owners (set ow 2 0) but heap (hp ++ replicate 64 99)) []
+    ∷ example (small but setMade 3 but setOwners (set ow 2 0) but setHeap (hp ++ replicate 64 99)) []
     -- a third page, held and taken to no word
-    ∷ example (small but made 3 but owners (set ow 2 3) but taken (set tk 2 0) but heap (hp ++ replicate 64 99)) []
+    ∷ example (small but setMade 3 but setOwners (set ow 2 3) but setTaken (set tk 2 0) but setHeap (hp ++ replicate 64 99)) []
     ∷ []

@@ -13,16 +13,16 @@ use Rattle.kinds.specs.Kinds.{kindCount, sizeOf, sizeIn}
 use Rattle.regions.specs.Regions.{nameAt, entryOf, tagOf, isLive, newestAt, oldestAt, unused, withRegion, withPage, entryIn, unusedIn}
 use Rattle.pages.specs.Pages.{pageCount, ownerAt, takenAt, isFree, pagesOf, wrongLength, withTaken, pagesIn, wrongLengthIn}
 use Rattle.outcomes.specs.Store.{Store, pages, slot, size, roomy, roomyIn}
-use Rattle.outcomes.specs.Outcome.{withPages, withHeap, badLength, noFrame, lacks, dead, checks, refusal, fillSlot, allocated}
-use Rattle.outcomes.specs.Examples.{small, grown}
+use Rattle.outcomes.specs.Outcome.{badLength, noFrame, lacks, dead, checks, refusal, fillSlot, allocated}
+use Rattle.outcomes.specs.Examples.{small, grown, _but_, setMade, setOwners, setTaken, setHeap}
 
 -- `grown` with a page more, which is free
 abbrev roomier : Store
-roomier = withHeap (withPages grown (record { made = 3; owners = 1 ∷ 3 ∷ 0 ∷ replicate 253 77; taken = 6 ∷ 7 ∷ replicate 254 0 })) (replicate 192 0)
+roomier = grown but setMade 3 but setOwners (1 ∷ 3 ∷ 0 ∷ replicate 253 77) but setTaken (6 ∷ 7 ∷ replicate 254 0) but setHeap (replicate 192 0)
 
 -- `small` with all but two words of page 1 taken
 abbrev tight : Store
-tight = withPages small (record { made = 2; owners = (pages small) .owners; taken = 6 ∷ 62 ∷ replicate 254 0 })
+tight = small but setTaken (6 ∷ 62 ∷ replicate 254 0)
 
 -- what is computed, and what it has to be
 abbrev cases : List (ℕ × ℕ)

@@ -10,12 +10,12 @@ use Rattle.model.specs.Model.{newRegion, subregion}
 use Rattle.regions.specs.Regions.{nameAt, entryOf, tagOf, isLive, liveCount, levelAt, countAt, unused, withRegion, entryIn, liveIn, unusedIn}
 use Rattle.pages.specs.Pages.{wrongLength, wrongLengthIn}
 use Rattle.outcomes.specs.Store.{Store, regions}
-use Rattle.outcomes.specs.Outcome.{withRegions, badLength, dead, full, namesOut, checks, refusal}
-use Rattle.outcomes.specs.Examples.{small, grown}
+use Rattle.outcomes.specs.Outcome.{badLength, dead, full, namesOut, checks, refusal}
+use Rattle.outcomes.specs.Examples.{small, grown, _but_, setGiven, setNames}
 
 -- 64 live regions, named 1 to 64
 abbrev crowded : Store
-crowded = let r = regions small in withRegions small (record { given = 64; names = map suc (upTo 64); parents = r .parents; levels = r .levels; counts = r .counts; newest = r .newest; oldest = r .oldest })
+crowded = small but setGiven 64 but setNames (map suc (upTo 64))
 
 -- what is computed, and what it has to be
 abbrev cases : List (ℕ × ℕ)

@@ -14,14 +14,14 @@ use Rattle.pages.specs.Pages.{pageCount, ownerAt, ownerIn, ownerOf, pagesOf, wr
 use Rattle.objects.specs.Objects.{kindOf, wordCount, markOf, wordAt}
 use Rattle.outcomes.specs.Store.{Store, frames, regions, pages, slot, slotTargets, targetsIn, breaks, breaksIn}
 use Rattle.outcomes.specs.Outcome.{withFrames, badLength, noFrame, oneFrame, lacks, lacksBeneath, noWord, isData, allData, checks, refusal, fillSlot, writeWord, recounted, countedIn, popFrame, pointed, viewed}
-use Rattle.outcomes.specs.Examples.{small}
+use Rattle.outcomes.specs.Examples.{small, _but_, setCounted}
 
 -- a third frame of two slots on top, the first leading to the object at 68; and the same with two frames counted
 abbrev three : Store
 three = fillSlot (withFrames small (pushed (frames small) 2)) 0 68
 
 abbrev counted : Store
-counted = let f = frames three in withFrames three (record { standing = f .standing; counted = 2; widths = f .widths; slots = f .slots })
+counted = three but setCounted 2
 
 -- what is computed, and what it has to be
 abbrev cases : List (ℕ × ℕ)
