@@ -1,3 +1,2 @@
--- Laws of walks and of ticked places, proved.
-pub mod Walks
+-- Laws of ticked places, proved.
 pub mod Ticks

@@ -1,23 +1,23 @@
 // The audit's tests of pages, and the headers of objects: they are ticked once, in an array with a byte for each word of the heap.
 ghost use mathlib.Core.Path.{_≡_};
+ghost use Prim.Native.Nat.{_≤_};
 ghost use Rattle.audit_heap.specs.Heap.{headersIn, filledTo, pageFits, pagesFit, headersHeld, allHeaders, ticked, headAt};
 
-// How many words the objects met on page j take, as far as n words of it.
+// How many words the objects met on page j take, as far as n words of it; no word past those is read.
 fn filled_to(declared: u32, sizes: &[u8], heap: &[u32], j: u32, n: u32) -> usize
+    requires { ⌜ n ≤ 64 ⌝ }
     ensures { λ r. ⌜ r ≡ filledTo declared (now (sizes .entry)) (now (heap .entry)) j n ⌝ }
 {
     let start = 64 * (j as usize);
     let end = start + (n as usize);
     let mut at = start;
-    let mut i: u32 = 0;
-    while i < 64 {
+    while at < end {
         let object = objects::part_at(heap, at);
         let s = objects::fitting(declared, sizes, object, end - at);
         if s == 0 {
             return at - start;
         }
         at = at + 1 + (s as usize);
-        i += 1;
     }
     at - start
 }
@@ -69,12 +69,12 @@ pub fn pages_fit<'a>(
 
 // The headers met on page j, as far as n words of it, are ticked.
 fn tick_page(declared: u32, sizes: &[u8], heap: &[u32], j: u32, n: u32, heads: &mut [u8])
+    requires { ⌜ n ≤ 64 ⌝ }
     ensures { λ _. ⌜ now (heads .exit) ≡ ticked (now (heads .entry)) (headersIn declared (now (sizes .entry)) (now (heap .entry)) j n) ⌝ }
 {
     let mut at = 64 * (j as usize);
     let end = at + (n as usize);
-    let mut i: u32 = 0;
-    while i < 64 {
+    while at < end {
         let object = objects::part_at(heap, at);
         let s = objects::fitting(declared, sizes, object, end - at);
         if s == 0 {
@@ -82,7 +82,6 @@ fn tick_page(declared: u32, sizes: &[u8], heap: &[u32], j: u32, n: u32, heads: &
         }
         cells::store_byte(heads, at, 1);
         at = at + 1 + (s as usize);
-        i += 1;
     }
 }
 

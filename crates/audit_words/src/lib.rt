@@ -1,5 +1,6 @@
 // The audit's tests of pointer words. Pointers are looked up among the headers that audit_heap ticked.
 ghost use mathlib.Core.Path.{_≡_};
+ghost use Prim.Native.Nat.{_≤_};
 ghost use Rattle.objects.specs.Parts.{wordIn};
 ghost use Rattle.audit_heap.specs.Heap.{headAt};
 ghost use Rattle.audit_words.specs.Words.{wordHolds, wordsHold, objectsHold, pageHolds, pagesHold};
@@ -69,12 +70,12 @@ fn objects_hold<'a>(
     j: u32,
     n: u32,
 ) -> bool
+    requires { ⌜ n ≤ 64 ⌝ }
     ensures { λ r. ⌜ r ≡ objectsHold (headAt (now (heads .entry))) (now (names .entry)) (now (owners .entry)) declared (now (sizes .entry)) (now (marks .entry)) (now (heap .entry)) own above j n ⌝ }
 {
     let mut at = 64 * (j as usize);
     let end = at + (n as usize);
-    let mut i: u32 = 0;
-    while i < 64 {
+    while at < end {
         let object = objects::part_at(heap, at);
         let s = objects::fitting(declared, sizes, object, end - at);
         if s == 0 {
@@ -84,7 +85,6 @@ fn objects_hold<'a>(
             return false;
         }
         at = at + 1 + (s as usize);
-        i += 1;
     }
     true
 }

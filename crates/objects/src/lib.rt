@@ -1,7 +1,7 @@
 // Objects in the heap that a call is given. Who reads an object's kind, mark or words gets the part of the heap that begins at its header.
 ghost use mathlib.Core.Path.{_≡_};
 ghost use mathlib.Core.List.{[], _∷_};
-ghost use Prim.Native.Nat.{_+_};
+ghost use Prim.Native.Nat.{_+_, _≤_};
 ghost use lib.ListN.{set};
 ghost use Rattle.kinds.specs.Kinds.{kindsWith, sizeIn, markIn};
 ghost use Rattle.regions.specs.Laws.Steps.{leavings};
@@ -57,13 +57,10 @@ pub fn write(heap: &mut [u32], v: u32, w: u32, x: u32)
     cells::store(heap, (v as usize) + (w as usize), x);
 }
 
-// How many words the object has; 0 where there is none, or it takes more than n words with its header. No word past those n decides it, and where no object fits none is read.
+// How many words the object has; 0 where there is none, or it takes more than n words with its header.
 pub fn fitting(declared: u32, sizes: &[u8], object: &[u32], n: usize) -> u32
     ensures { λ r. ⌜ r ≡ fitting declared (now (sizes .entry)) (now (object .entry)) n ⌝ }
 {
-    if n < 2 {
-        return 0;
-    }
     let s = word_count(declared, sizes, object);
     if 1 + (s as usize) <= n { s } else { 0 }
 }
@@ -91,7 +88,7 @@ fn leave_words(marks: &[u8], object: &[u32], n: u32, owners: &[u8], counts: &mut
     }
 }
 
-// The same of the objects on page j, of which n words are taken.
+// The same of the objects on page j, of which n words are taken; no word past those is read.
 pub fn leave_page<'a>(
     declared: u32,
     sizes: &'a [u8],
@@ -103,12 +100,12 @@ pub fn leave_page<'a>(
     counts: &mut [u32],
     own: u32,
 )
+    requires { ⌜ n ≤ 64 ⌝ }
     ensures { λ _. ⌜ now (counts .exit) ≡ leavings (now (counts .entry)) (outOf (now (owners .entry)) own (freeWordsTo (kindsWith declared (now (sizes .entry)) (now (marks .entry))) (now (heap .entry)) j n)) ⌝ }
 {
     let mut at = 64 * (j as usize);
     let end = at + (n as usize);
-    let mut i: u32 = 0;
-    while i < 64 {
+    while at < end {
         let object = part_at(heap, at);
         let s = fitting(declared, sizes, object, end - at);
         if s == 0 {
@@ -116,6 +113,5 @@ pub fn leave_page<'a>(
         }
         leave_words(marks, object, s, owners, counts, own);
         at = at + 1 + (s as usize);
-        i += 1;
     }
 }

@@ -6,23 +6,26 @@ use lib.ListN.{length}
 use borrow.Author.Needs.{needs}
 use Rattle.kinds.specs.Kinds.{kindsWith}
 use Rattle.regions.specs.Laws.Steps.{steps, leavings, steps-length}
-use Rattle.objects.specs.Objects.{headersTo, outOf}
-use Rattle.objects.specs.Laws.Walk.{wordsFrom, words-none, words-stop, words-next}
+use Rattle.objects.specs.Objects.{outOf}
+use Rattle.objects.specs.Laws.Walk.{wordsLeft, headers-page, headers-end, headers-stop, words-on}
 use Rattle.objects.specs.Laws.Leaving.{left-left}
 use Rattle.objects.proofs.leave_page.Statement.{statement}
 use Rattle.objects.proofs.leave_page.Tie as tie
 
 -- when the words left leave too, all have left
 abbrev Inv-loop : tie.InvT-loop
-Inv-loop declared sizes marks heap owners j n counts₀ own at₀ end i₀ counts at i =
+Inv-loop declared sizes marks heap owners j n counts₀ own at₀ end counts at =
     let k = kindsWith declared sizes marks in
-    (i ≤ 64) × (at ≤ end) × (length counts ≡ length counts₀) × (leavings counts (outOf owners own (wordsFrom k heap (64 - i) at end)) ≡ leavings counts₀ (outOf owners own (wordsFrom k heap 64 at₀ end)))
+    (at ≤ end) × (length counts ≡ length counts₀) × (leavings counts (outOf owners own (wordsLeft k heap at end)) ≡ leavings counts₀ (outOf owners own (wordsLeft k heap at₀ end)))
 
 abbrev μ-loop : tie.MeasureT-loop
-μ-loop declared sizes marks heap owners j n counts₀ own at₀ end i₀ counts at i = 64 - i
+μ-loop declared sizes marks heap owners j n counts₀ own at₀ end counts at = end - at
+
+few : (c : tie.Start Inv-loop μ-loop) → c .args .n ≤ 64
+few c = search needs
 
 loop-holds : tie.Need-loop-holds Inv-loop μ-loop
-loop-holds c = (search needs, search needs, refl, refl)
+loop-holds c = (search needs, refl, refl)
 
 -- the words of one object, and those left
 next : (owners : List ℕ) (own : ℕ) (cs ds a b : List ℕ) → ds ≡ leavings cs (outOf owners own a) → leavings ds (outOf owners own b) ≡ leavings cs (outOf owners own (a ++ b))
@@ -37,15 +40,15 @@ leaves :
     let k = kindsWith (a .declared) (a .sizes .now) (a .marks .now) in
     let e = 64 * a .j + a .n in
     let cs : List ℕ = c .leave-words .last .1 .1 .1 .1 .0 in
-    let left : ℕ → ℕ → List ℕ = λ i at. outOf (a .owners .now) (a .own) (wordsFrom k (a .heap .now) (64 - i) at e) in
-    (l .loop .at + 1 + s ≤ e) × (length cs ≡ length (l .loop .counts)) × (leavings cs (left (l .loop .i + 1) (l .loop .at + 1 + s)) ≡ leavings (l .loop .counts) (left (l .loop .i) (l .loop .at)))
+    let left : ℕ → List ℕ = λ at. outOf (a .owners .now) (a .own) (wordsLeft k (a .heap .now) at e) in
+    (l .loop .at + 1 + s ≤ e) × (length cs ≡ length (l .loop .counts)) × (leavings cs (left (l .loop .at + 1 + s)) ≡ leavings (l .loop .counts) (left (l .loop .at)))
 leaves c =
     let z = c .before .before .before in
     let l = z .before .before .before in
     let a = l .before .before .before .before .before .before .args in
     let k = kindsWith (a .declared) (a .sizes .now) (a .marks .now) in
     let m = z .before .part-at .ensures in
-    let o = words-next k (a .heap .now) (l .loop .at) (64 * a .j + a .n) (64 - l .loop .i) (64 - (l .loop .i + 1)) (z .fitting .result) (omega arith) (rw m at (z .fitting .ensures)) (c .before .before .if1 .left) in
+    let o = words-on k (a .heap .now) (l .loop .at) (64 * a .j + a .n) (z .fitting .result) (rw m at (z .fitting .ensures)) (c .before .before .if1 .left) in
     let h = rw m at (c .leave-words .ensures) in
     (o .0, ap length h ∙ steps-length 4294967295 (l .loop .counts) _, rw (o .1) (next (a .owners .now) (a .own) (l .loop .counts) _ _ _ h))
 
@@ -53,24 +56,26 @@ loop-again : tie.Need-loop-again Inv-loop μ-loop
 loop-again c =
     let b = c .before .before in
     let l = b .before .before .before .before .before .before in
-    (omega arith, leaves b .0, leaves b .1 ∙ l .loop .inv .2, leaves b .2 ∙ l .loop .inv .3)
+    (leaves b .0, leaves b .1 ∙ l .loop .inv .1, leaves b .2 ∙ l .loop .inv .2)
 
 returns : tie.Need-returns Inv-loop μ-loop
-unfolding headersTo outOf steps
+unfolding outOf steps
 returns c =
     let l = c .before in
-    let a = l .before .before .before .before .before .before .args in
+    let s = l .before .before .before .before .before .before in
+    let a = s .args in
     let k = kindsWith (a .declared) (a .sizes .now) (a .marks .now) in
-    rw (words-none k (a .heap .now) (l .loop .at) (64 * a .j + a .n) (64 - l .loop .i) (omega arith)) at (l .loop .inv .3)
+    rw (headers-page k (a .heap .now) (a .j) (a .n) (few s)) (rw (headers-end k (a .heap .now) (l .loop .at) (64 * a .j + a .n) (omega arith)) at (l .loop .inv .2))
 
 returns-2 : tie.Need-returns-2 Inv-loop μ-loop
-unfolding headersTo outOf steps
+unfolding outOf steps
 returns-2 c =
     let l = c .before .before .before .before in
-    let a = l .before .before .before .before .before .before .args in
+    let s = l .before .before .before .before .before .before in
+    let a = s .args in
     let k = kindsWith (a .declared) (a .sizes .now) (a .marks .now) in
     let z = rw (c .before .before .part-at .ensures) at (c .before .fitting .ensures) in
-    rw (words-stop k (a .heap .now) (l .loop .at) (64 * a .j + a .n) (64 - l .loop .i) (sym z ∙ c .if1 .taken)) at (l .loop .inv .3)
+    rw (headers-page k (a .heap .now) (a .j) (a .n) (few s)) (rw (headers-stop k (a .heap .now) (l .loop .at) (64 * a .j + a .n) _ z (c .if1 .taken)) at (l .loop .inv .2))
 
 pub leave-page-spec : {M : Type 1} → statement M
 leave-page-spec =
@@ -88,10 +93,9 @@ leave-page-spec =
     (λ c. omega (arith, leaves (c .before .before) .0))
     (λ c. search needs)
     (λ c. omega (arith, leaves (c .before .before) .0))
-    (λ c. search needs)
-    (λ c. search needs)
+    (λ c. omega (arith, leaves (c .before .before) .0))
     loop-again
-    (λ c. c .before .loop .inv .2)
+    (λ c. c .before .loop .inv .1)
     returns
-    (λ c. c .before .before .before .before .loop .inv .2)
+    (λ c. c .before .before .before .before .loop .inv .1)
     returns-2)
