@@ -79,9 +79,10 @@ fn leave_word(owners: &[u8], counts: &mut [u32], own: u32, v: u32)
 fn leave_words(marks: &[u8], object: &[u32], n: u32, owners: &[u8], counts: &mut [u32], own: u32)
     ensures { λ _. ⌜ now (counts .exit) ≡ leavings (now (counts .entry)) (outOf (now (owners .entry)) own (freeWordsIn (now (marks .entry)) (now (object .entry)) n)) ⌝ }
 {
+    let kind = kind_of(object);
     let mut w: u32 = 0;
     while w < n {
-        if mark_of(marks, object, w) == 1 {
+        if kinds::mark_at(marks, kind, w) == 1 {
             leave_word(owners, counts, own, word_at(object, w));
         }
         w += 1;

@@ -5,6 +5,7 @@ use Prim.Native.Nat.{_-_, _≤_}
 use native.Mathlib.Omega.{arith}
 use lib.ListN.{length}
 use borrow.Author.Needs.{needs}
+use Rattle.kinds.specs.Kinds.{markIn}
 use Rattle.regions.specs.Laws.Steps.{steps, leavings, steps-length}
 use Rattle.objects.specs.Objects.{outOf}
 use Rattle.objects.specs.Parts.{wordIn, freeWordsIn}
@@ -15,10 +16,10 @@ use Rattle.objects.proofs.leave_words.Tie as tie
 
 -- the words passed have left
 abbrev Inv-loop : tie.InvT-loop
-Inv-loop marks object n owners counts₀ own w₀ counts w = (w ≤ n) × (counts ≡ leavings counts₀ (outOf owners own (freeWordsIn marks object w)))
+Inv-loop marks object n owners counts₀ own kind w₀ counts w = (w ≤ n) × (counts ≡ leavings counts₀ (outOf owners own (freeWordsIn marks object w)))
 
 abbrev μ-loop : tie.MeasureT-loop
-μ-loop marks object n owners counts₀ own w₀ counts w = n - w
+μ-loop marks object n owners counts₀ own kind w₀ counts w = n - w
 
 loop-holds : tie.Need-loop-holds Inv-loop μ-loop
 unfolding outOf freeWordsIn steps
@@ -27,8 +28,9 @@ loop-holds c = (search needs, refl)
 loop-again : tie.Need-loop-again Inv-loop μ-loop
 loop-again c =
     let l = c .before .before .before in
-    let a = l .before .before .before .before .before .args in
-    let m = c .before .mark-of .ensures in (
+    let k = l .before in
+    let a = k .before .before .before .before .before .args in
+    let m = c .before .mark-at .ensures ∙ ap (λ k. markIn (a .marks .now) k (l .loop .w)) (k .kind-of .ensures) in (
       omega arith,
       ⊎-elim
           (λ w.
@@ -39,10 +41,10 @@ loop-again c =
     )
 
 returns : tie.Need-returns Inv-loop μ-loop
-returns c = let l = c .before in let e : l .before .before .before .before .before .args .n ≡ l .loop .w = omega arith in rw e (l .loop .inv .1)
+returns c = let l = c .before in let e : l .before .before .before .before .before .before .args .n ≡ l .loop .w = omega arith in rw e (l .loop .inv .1)
 
 same-length : tie.Need-same-length Inv-loop μ-loop
-same-length c = let l = c .before in ap length (l .loop .inv .1) ∙ steps-length 4294967295 (l .before .before .before .before .before .args .counts .now) _
+same-length c = let l = c .before in ap length (l .loop .inv .1) ∙ steps-length 4294967295 (l .before .before .before .before .before .before .args .counts .now) _
 
 pub leave-words-spec : {M : Type 1} → statement M
 leave-words-spec =
@@ -50,6 +52,7 @@ leave-words-spec =
     (tie.spec
     Inv-loop
     μ-loop
+    (λ c κs. search needs)
     loop-holds
     (λ c κs. search needs)
     (λ c κs. search needs)
