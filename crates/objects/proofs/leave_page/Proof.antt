@@ -21,9 +21,6 @@ Inv-loop declared sizes marks heap owners j n counts₀ own at₀ end counts at 
 abbrev μ-loop : tie.MeasureT-loop
 μ-loop declared sizes marks heap owners j n counts₀ own at₀ end counts at = end - at
 
-few : (c : tie.Start Inv-loop μ-loop) → c .args .n ≤ 64
-few c = search needs
-
 loop-holds : tie.Need-loop-holds Inv-loop μ-loop
 loop-holds c = (search needs, refl, refl)
 
@@ -60,22 +57,20 @@ loop-again c =
 
 returns : tie.Need-returns Inv-loop μ-loop
 unfolding outOf steps
-returns c =
+returns c few =
     let l = c .before in
-    let s = l .before .before .before .before .before .before in
-    let a = s .args in
+    let a = l .before .before .before .before .before .before .args in
     let k = kindsWith (a .declared) (a .sizes .now) (a .marks .now) in
-    rw (headers-page k (a .heap .now) (a .j) (a .n) (few s)) (rw (headers-end k (a .heap .now) (l .loop .at) (64 * a .j + a .n) (omega arith)) at (l .loop .inv .2))
+    rw (headers-page k (a .heap .now) (a .j) (a .n) few) (rw (headers-end k (a .heap .now) (l .loop .at) (64 * a .j + a .n) (omega arith)) at (l .loop .inv .2))
 
 returns-2 : tie.Need-returns-2 Inv-loop μ-loop
 unfolding outOf steps
-returns-2 c =
+returns-2 c few =
     let l = c .before .before .before .before in
-    let s = l .before .before .before .before .before .before in
-    let a = s .args in
+    let a = l .before .before .before .before .before .before .args in
     let k = kindsWith (a .declared) (a .sizes .now) (a .marks .now) in
     let z = rw (c .before .before .part-at .ensures) at (c .before .fitting .ensures) in
-    rw (headers-page k (a .heap .now) (a .j) (a .n) (few s)) (rw (headers-stop k (a .heap .now) (l .loop .at) (64 * a .j + a .n) _ z (c .if1 .taken)) at (l .loop .inv .2))
+    rw (headers-page k (a .heap .now) (a .j) (a .n) few) (rw (headers-stop k (a .heap .now) (l .loop .at) (64 * a .j + a .n) _ z (c .if1 .taken)) at (l .loop .inv .2))
 
 pub leave-page-spec : {M : Type 1} → statement M
 leave-page-spec =
