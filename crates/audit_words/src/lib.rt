@@ -6,17 +6,18 @@ ghost use Rattle.audit_heap.specs.Heap.{headAt};
 ghost use Rattle.audit_words.specs.Words.{wordHolds, wordsHold, objectsHold, pageHolds, pagesHold};
 
 // Whether word w of an object, with mark m, is data, null, or leads to an object that the mark allows. Data is not read.
-fn word_holds(
+fn word_holds<'a>(
     heads: &[u8],
-    names: &[u32],
+    names: &'a [u32],
+    parents: &'a [u8],
+    levels: &'a [u8],
     owners: &[u8],
     own: u32,
-    above: u32,
     m: u32,
     object: &[u32],
     w: u32,
 ) -> bool
-    ensures { λ r. ⌜ r ≡ wordHolds (headAt (now (heads .entry))) (now (names .entry)) (now (owners .entry)) own above m (wordIn (now (object .entry)) w) ⌝ }
+    ensures { λ r. ⌜ r ≡ wordHolds (headAt (now (heads .entry))) (now (names .entry)) (now (parents .entry)) (now (levels .entry)) (now (owners .entry)) own m (wordIn (now (object .entry)) w) ⌝ }
 {
     if m == 0 {
         return true;
@@ -28,27 +29,27 @@ fn word_holds(
     if !audit_heap::stands_at(heads, x - 1) {
         return false;
     }
-    let t = pages::owner_of(owners, x);
-    kinds::allows(m, regions::name_of(names, t), own, above)
+    regions::allows(names, parents, levels, m, own, pages::owner_of(owners, x))
 }
 
 // The same of an object's first n words.
-fn words_hold(
+fn words_hold<'a>(
     marks: &[u8],
     object: &[u32],
     n: u32,
     heads: &[u8],
-    names: &[u32],
+    names: &'a [u32],
+    parents: &'a [u8],
+    levels: &'a [u8],
     owners: &[u8],
     own: u32,
-    above: u32,
 ) -> bool
-    ensures { λ r. ⌜ r ≡ wordsHold (headAt (now (heads .entry))) (now (names .entry)) (now (owners .entry)) (now (marks .entry)) (now (object .entry)) n own above ⌝ }
+    ensures { λ r. ⌜ r ≡ wordsHold (headAt (now (heads .entry))) (now (names .entry)) (now (parents .entry)) (now (levels .entry)) (now (owners .entry)) (now (marks .entry)) (now (object .entry)) n own ⌝ }
 {
     let mut w: u32 = 0;
     while w < n {
         let m = objects::mark_of(marks, object, w);
-        if !word_holds(heads, names, owners, own, above, m, object, w) {
+        if !word_holds(heads, names, parents, levels, owners, own, m, object, w) {
             return false;
         }
         w += 1;
@@ -57,21 +58,22 @@ fn words_hold(
 }
 
 // The same of the objects on page j, of which n words are taken.
-fn objects_hold<'a>(
+fn objects_hold<'a, 'b>(
     declared: u32,
     sizes: &'a [u8],
     marks: &'a [u8],
     heap: &[u32],
     heads: &[u8],
-    names: &[u32],
+    names: &'b [u32],
+    parents: &'b [u8],
+    levels: &'b [u8],
     owners: &[u8],
     own: u32,
-    above: u32,
     j: u32,
     n: u32,
 ) -> bool
     requires { ⌜ n ≤ 64 ⌝ }
-    ensures { λ r. ⌜ r ≡ objectsHold (headAt (now (heads .entry))) (now (names .entry)) (now (owners .entry)) declared (now (sizes .entry)) (now (marks .entry)) (now (heap .entry)) own above j n ⌝ }
+    ensures { λ r. ⌜ r ≡ objectsHold (headAt (now (heads .entry))) (now (names .entry)) (now (parents .entry)) (now (levels .entry)) (now (owners .entry)) declared (now (sizes .entry)) (now (marks .entry)) (now (heap .entry)) own j n ⌝ }
 {
     let mut at = 64 * (j as usize);
     let end = at + (n as usize);
@@ -81,7 +83,7 @@ fn objects_hold<'a>(
         if s == 0 {
             return true;
         }
-        if !words_hold(marks, object, s, heads, names, owners, own, above) {
+        if !words_hold(marks, object, s, heads, names, parents, levels, owners, own) {
             return false;
         }
         at = at + 1 + (s as usize);
@@ -97,18 +99,17 @@ fn page_holds<'a, 'b, 'c>(
     heads: &[u8],
     names: &'b [u32],
     parents: &'b [u8],
+    levels: &'b [u8],
     owners: &'c [u8],
     taken: &'c [u8],
     j: u32,
 ) -> bool
-    ensures { λ r. ⌜ r ≡ pageHolds (headAt (now (heads .entry))) (now (names .entry)) (now (owners .entry)) declared (now (sizes .entry)) (now (marks .entry)) (now (heap .entry)) (now (parents .entry)) (now (taken .entry)) j ⌝ }
+    ensures { λ r. ⌜ r ≡ pageHolds (headAt (now (heads .entry))) (now (names .entry)) (now (parents .entry)) (now (levels .entry)) (now (owners .entry)) declared (now (sizes .entry)) (now (marks .entry)) (now (heap .entry)) (now (taken .entry)) j ⌝ }
 {
     let t = pages::owner_at(owners, j);
     if t == 0 {
         return true;
     }
-    let own = regions::name_of(names, t);
-    let above = regions::name_of(names, regions::parent_at(parents, t - 1));
     let n = pages::taken_at(taken, j);
     objects_hold(
         declared,
@@ -117,9 +118,10 @@ fn page_holds<'a, 'b, 'c>(
         heap,
         heads,
         names,
+        parents,
+        levels,
         owners,
-        own,
-        above,
+        t,
         j,
         n,
     )
@@ -134,11 +136,12 @@ pub fn pages_hold<'a, 'b, 'c>(
     heads: &[u8],
     names: &'b [u32],
     parents: &'b [u8],
+    levels: &'b [u8],
     made: u32,
     owners: &'c [u8],
     taken: &'c [u8],
 ) -> bool
-    ensures { λ r. ⌜ r ≡ pagesHold (headAt (now (heads .entry))) (now (names .entry)) (now (owners .entry)) declared (now (sizes .entry)) (now (marks .entry)) (now (heap .entry)) (now (parents .entry)) made (now (taken .entry)) ⌝ }
+    ensures { λ r. ⌜ r ≡ pagesHold (headAt (now (heads .entry))) (now (names .entry)) (now (parents .entry)) (now (levels .entry)) (now (owners .entry)) declared (now (sizes .entry)) (now (marks .entry)) (now (heap .entry)) made (now (taken .entry)) ⌝ }
 {
     let n = pages::page_count(made);
     let mut j: u32 = 0;
@@ -151,6 +154,7 @@ pub fn pages_hold<'a, 'b, 'c>(
             heads,
             names,
             parents,
+            levels,
             owners,
             taken,
             j,

@@ -13,19 +13,19 @@ use Rattle.audit_words.specs.Words.{pagesHold}
 use Rattle.audit_counts.specs.Counts.{countsFit}
 
 -- those of the heap; headers are ticked in the list `heads`
-unfoldable pub heapFits : List ℕ → ℕ → List ℕ → List ℕ → List ℕ → List ℕ → List ℕ → List ℕ → List ℕ → ℕ → List ℕ → List ℕ → ℕ → List ℕ → List ℕ → Bool
-heapFits heads declared sizes marks heap names parents newest oldest made owners taken standing widths slots =
+unfoldable pub heapFits : List ℕ → ℕ → List ℕ → List ℕ → List ℕ → List ℕ → List ℕ → List ℕ → List ℕ → List ℕ → ℕ → List ℕ → List ℕ → ℕ → List ℕ → List ℕ → Bool
+heapFits heads declared sizes marks heap names parents levels newest oldest made owners taken standing widths slots =
     let stands = headAt (ticked heads (allHeaders declared sizes heap made owners taken)) in
     pagesFit declared sizes heap names made owners taken
     && entriesOwn stands names newest oldest made owners
     && framesLead stands standing widths slots
-    && pagesHold stands names owners declared sizes marks heap parents made taken
+    && pagesHold stands names parents levels owners declared sizes marks heap made taken
 
 -- each after those that it relies on
 unfoldable pub passesIn : List ℕ → List ℕ → List ℕ → ℕ → List ℕ → List ℕ → ℕ → ℕ → List ℕ → List ℕ → ℕ → List ℕ → List ℕ → List ℕ → List ℕ → List ℕ → ℕ → List ℕ → List ℕ → Bool
 passesIn heads cs heap declared sizes marks standing counted widths slots given names parents levels newest oldest made owners taken =
     stateFitsIn made (length heap) declared sizes marks standing counted widths given names parents levels
-    && heapFits heads declared sizes marks heap names parents newest oldest made owners taken standing widths slots
+    && heapFits heads declared sizes marks heap names parents levels newest oldest made owners taken standing widths slots
     && countsFit names cs (kindsWith declared sizes marks) heap made owners taken counted widths slots
 
 -- of a memory; headers are ticked among as many zeros as a heap has words at most, and pointers leave the counts cs

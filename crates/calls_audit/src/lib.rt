@@ -16,6 +16,7 @@ fn heap_fits<'a>(
     heap: &[u32],
     names: &'a [u32],
     parents: &'a [u8],
+    levels: &'a [u8],
     newest: &'a [u16],
     oldest: &'a [u32],
     made: u32,
@@ -26,7 +27,7 @@ fn heap_fits<'a>(
     slots: &'a [u32],
     heads: &mut [u8],
 ) -> bool
-    ensures { λ r. ⌜ r ≡ heapFits (now (heads .entry)) declared (now (sizes .entry)) (now (marks .entry)) (now (heap .entry)) (now (names .entry)) (now (parents .entry)) (now (newest .entry)) (now (oldest .entry)) made (now (owners .entry)) (now (taken .entry)) standing (now (widths .entry)) (now (slots .entry)) ⌝ }
+    ensures { λ r. ⌜ r ≡ heapFits (now (heads .entry)) declared (now (sizes .entry)) (now (marks .entry)) (now (heap .entry)) (now (names .entry)) (now (parents .entry)) (now (levels .entry)) (now (newest .entry)) (now (oldest .entry)) made (now (owners .entry)) (now (taken .entry)) standing (now (widths .entry)) (now (slots .entry)) ⌝ }
 {
     if !audit_heap::pages_fit(declared, sizes, heap, names, made, owners, taken) {
         return false;
@@ -46,6 +47,7 @@ fn heap_fits<'a>(
         heads,
         names,
         parents,
+        levels,
         made,
         owners,
         taken,
@@ -99,6 +101,7 @@ fn passes<'a>(
         heap,
         names,
         parents,
+        levels,
         newest,
         oldest,
         made,

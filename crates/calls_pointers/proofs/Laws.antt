@@ -42,21 +42,21 @@ module _ (S : Store) (s : ℕ) where
   set-tests w v = reason-append (checks S (load s w v)) (breaks S (slot S s) w (slot S v) yields 17 ∷ []) refl
 
   -- the mark's rule by the parts that it reads
-  breaks-in : (w x : ℕ) → breaks S (inSlot S s) w x ≡ breaksIn ((regions S) .names) ((regions S) .parents) (mark S s w) (ownerIn ((pages S) .owners) (inSlot S s)) x (ownerIn ((pages S) .owners) x)
-  unfolding breaks ownerOf markOf markAt breaksIn nameOf parentAt
+  breaks-in : (w x : ℕ) → breaks S (inSlot S s) w x ≡ breaksIn ((regions S) .names) ((regions S) .parents) ((regions S) .levels) (mark S s w) (ownerIn ((pages S) .owners) (inSlot S s)) x (ownerIn ((pages S) .owners) x)
+  unfolding breaks ownerOf markOf markAt breaksIn
   breaks-in w x = rw (object-header (S .heap) (inSlot S s))
 
 -- set pointer's tests by the parts that they read
 pub set-parts : (S : Store) (s w v : ℕ) → refusal S (setPointer s w v)
-    ≡ firstRefusal (reason (top S s v)) (setRefusal ((kinds S) .declared) ((kinds S) .sizes) ((kinds S) .marks) ((regions S) .names) ((regions S) .parents) ((pages S) .owners) (object S s) (inSlot S s) w (inSlot S v))
+    ≡ firstRefusal (reason (top S s v)) (setRefusal ((kinds S) .declared) ((kinds S) .sizes) ((kinds S) .marks) ((regions S) .names) ((regions S) .parents) ((regions S) .levels) ((pages S) .owners) (object S s) (inSlot S s) w (inSlot S v))
 unfolding slot slotAt topFrame
 set-parts S s w v =
     set-tests S s w v ∙ ap₂ (λ a b. firstRefusal a (reason (b yields 17 ∷ []))) (load-tests S s w v) (breaks-in S s w (inSlot S v))
     ∙ else-else (reason (top S s v)) (pointerRefusal ((kinds S) .declared) ((kinds S) .sizes) ((kinds S) .marks) (object S s) (inSlot S s) w) _
 
-set-read : (declared : ℕ) (sizes marks names parents owners heap : List ℕ) (v w x : ℕ) → setRefusal declared sizes marks names parents owners (objectOf heap v) v w x ≡ 0
+set-read : (declared : ℕ) (sizes marks names parents levels owners heap : List ℕ) (v w x : ℕ) → setRefusal declared sizes marks names parents levels owners (objectOf heap v) v w x ≡ 0
     → wordIn (objectOf heap v) w ≡ wordAt heap v w
-set-read declared sizes marks names parents owners heap v w x e =
+set-read declared sizes marks names parents levels owners heap v w x e =
     word-read declared sizes heap v w _ (sym (else-else (reason (wordTests declared sizes (objectOf heap v) v w)) (reason (eqb (markIn marks (headerIn (objectOf heap v)) w) 0 yields 16 ∷ [])) _) ∙ e)
 
 -- leaving one count and then entering another, by the regions that the outcome names
@@ -108,7 +108,7 @@ module _ (S : Store) (s w : ℕ) where
 
     -- and x, what slot u holds
     module _ (u x t g : ℕ) (valued : x ≡ inSlot S u) (first : t ≡ reason (top S s u)) (passed : t ≡ 0)
-        (asked : g ≡ setRefusal ((kinds S) .declared) ((kinds S) .sizes) marks ((regions S) .names) ((regions S) .parents) owners o v w x) where
+        (asked : g ≡ setRefusal ((kinds S) .declared) ((kinds S) .sizes) marks ((regions S) .names) ((regions S) .parents) ((regions S) .levels) owners o v w x) where
       pub set-second : refusal S (setPointer s w u) ≡ g
       set-second = set-parts S s w u ∙ else-next (reason (top S s u)) t _ first passed ∙ sym (asked ∙ rw (read, led, valued))
 
@@ -117,6 +117,6 @@ module _ (S : Store) (s w : ℕ) where
           → T ≡ withHeap (withRegions S (withCounts (regions S) cs)) words → Outcome (setPointer s w u) S a T
       unfolding Accepted slot slotAt topFrame
       set-effect a out into cs words T z p fits l e c d h =
-          let r = set-read ((kinds S) .declared) ((kinds S) .sizes) marks ((regions S) .names) ((regions S) .parents) owners (S .heap) v w x (rw (← read) (sym asked ∙ z)) in
+          let r = set-read ((kinds S) .declared) ((kinds S) .sizes) marks ((regions S) .names) ((regions S) .parents) ((regions S) .levels) owners (S .heap) v w x (rw (← read) (sym asked ∙ z)) in
           by-effect (setPointer s w u) S a T (set-second ∙ z)
           (p, h ∙ set-leaves v x out into cs words fits r (l ∙ rw read) (e ∙ rw read) c d ∙ ap₂ (λ v x. pointed S v w x) led valued)

@@ -18,9 +18,9 @@ abbrev pub pointerRefusal : ℕ → List ℕ → List ℕ → List ℕ → ℕ �
 pointerRefusal declared sizes marks object v w = firstRefusal (reason (wordTests declared sizes object v w)) (reason (eqb (markIn marks (headerIn object) w) 0 yields 16 ∷ []))
 
 -- why word w of the object that v leads to cannot get x; 0 where it can
-abbrev pub setRefusal : ℕ → List ℕ → List ℕ → List ℕ → List ℕ → List ℕ → List ℕ → ℕ → ℕ → ℕ → ℕ
-setRefusal declared sizes marks names parents owners object v w x =
-    firstRefusal (pointerRefusal declared sizes marks object v w) (reason (breaksIn names parents (markIn marks (headerIn object) w) (ownerIn owners v) x (ownerIn owners x) yields 17 ∷ []))
+abbrev pub setRefusal : ℕ → List ℕ → List ℕ → List ℕ → List ℕ → List ℕ → List ℕ → List ℕ → ℕ → ℕ → ℕ → ℕ
+setRefusal declared sizes marks names parents levels owners object v w x =
+    firstRefusal (pointerRefusal declared sizes marks object v w) (reason (breaksIn names parents levels (markIn marks (headerIn object) w) (ownerIn owners v) x (ownerIn owners x) yields 17 ∷ []))
 
 -- the tag of the region whose count has a pointer into the region with tag t, held by a word marked k of an object of the region with tag h: 0 for none
 -- (document 01, The store, on outside pointers)

@@ -72,19 +72,21 @@ pub fn load(s: State, heap: &[u32], slot: u32, w: u32, to: u32) -> Done
 }
 
 // Whether a word marked m of an object of the region with tag h may not get x, which leads into the region with tag `to`.
-fn breaks<'a>(names: &'a [u32], parents: &'a [u8], m: u32, h: u32, x: u32, to: u32) -> bool
-    ensures { λ r. ⌜ r ≡ breaksIn (now (names .entry)) (now (parents .entry)) m h x to ⌝ }
+fn breaks<'a>(
+    names: &'a [u32],
+    parents: &'a [u8],
+    levels: &'a [u8],
+    m: u32,
+    h: u32,
+    x: u32,
+    to: u32,
+) -> bool
+    ensures { λ r. ⌜ r ≡ breaksIn (now (names .entry)) (now (parents .entry)) (now (levels .entry)) m h x to ⌝ }
 {
     if x == 0 {
         return false;
     }
-    let up = regions::parent_at(parents, cells::less(h));
-    if kinds::allows(
-        m,
-        regions::name_of(names, to),
-        regions::name_of(names, h),
-        regions::name_of(names, up),
-    ) {
+    if regions::allows(names, parents, levels, m, h, to) {
         return false;
     }
     true
@@ -97,13 +99,14 @@ fn set_refusal<'a>(
     marks: &'a [u8],
     names: &'a [u32],
     parents: &'a [u8],
+    levels: &'a [u8],
     owners: &'a [u8],
     object: &[u32],
     v: u32,
     w: u32,
     x: u32,
 ) -> u32
-    ensures { λ r. ⌜ r ≡ setRefusal declared (now (sizes .entry)) (now (marks .entry)) (now (names .entry)) (now (parents .entry)) (now (owners .entry)) (now (object .entry)) v w x ⌝ }
+    ensures { λ r. ⌜ r ≡ setRefusal declared (now (sizes .entry)) (now (marks .entry)) (now (names .entry)) (now (parents .entry)) (now (levels .entry)) (now (owners .entry)) (now (object .entry)) v w x ⌝ }
 {
     let g = pointer_refusal(declared, sizes, marks, object, v, w);
     if g != 0 {
@@ -113,6 +116,7 @@ fn set_refusal<'a>(
     if breaks(
         names,
         parents,
+        levels,
         m,
         pages::owner_of(owners, v),
         x,
@@ -186,6 +190,7 @@ pub fn set_pointer(s: State, heap: &mut [u32], slot: u32, w: u32, value: u32) ->
         &t.kinds.marks,
         &t.regions.names,
         &t.regions.parents,
+        &t.regions.levels,
         &t.pages.owners,
         object,
         v,

@@ -6,7 +6,6 @@ ghost use lib.Dec.{eqb, ltb};
 ghost use lib.ListN.{set};
 ghost use lib.Seq.{sets};
 ghost use Rattle.lists.specs.Lists.{anyOf, every, upTo};
-ghost use Rattle.model.specs.Model.{rule};
 ghost use Rattle.kinds.specs.Kinds.{kindCountIn, sizeIn, markIn, wrongMarks};
 
 // Kind k, from 1 on, has sizes[k - 1] words; the mark of its word w stands at 16 * (k - 1) + w.
@@ -95,26 +94,4 @@ pub fn all_data(marks: &[u8], n: u32, size: u32) -> bool
         w += 1;
     }
     true
-}
-
-// Whether a word marked k, of an object of the region named h below the region named u, may lead into the region named t.
-pub fn allows(k: u32, t: u32, h: u32, u: u32) -> bool
-    ensures { λ r. ⌜ r ≡ rule k t h u ⌝ }
-{
-    if k == 1 {
-        return true;
-    }
-    if k == 2 {
-        return t == h;
-    }
-    if k == 3 {
-        if t == h {
-            return true;
-        }
-        return t == u;
-    }
-    if k == 4 {
-        return t == 1;
-    }
-    false
 }

@@ -3,10 +3,10 @@
 -- Assumes nothing.
 use mathlib.Core.Bool.{Bool, true, false, not, _&&_, _||_}
 use mathlib.Core.List.{List, [], _∷_}
-use Prim.Native.Nat.{ℕ, _+_, _-_}
+use Prim.Native.Nat.{ℕ, zero, suc, _+_, _-_}
 use lib.Dec.{eqb}
 use lib.ListN.{length, getD, take}
-use Rattle.lists.specs.Lists.{bit, pick, anyOf, findOr, sumOf, sumOf₂, countOf}
+use Rattle.lists.specs.Lists.{bit, pick, anyOf, findOr, sumOf, sumOf₂, countOf, among}
 
 -- A live region: the region directly above it (0: none), its pages, the words left in the newest one and its oldest object (0: none).
 pub record Region : Type 0 where
@@ -177,12 +177,21 @@ stored L r = wordPointers L r + inFrames (homeIn L) r (take (L .counted) (L .fra
 abbrev pub subregions : Model → ℕ → ℕ
 subregions L r = countOf (λ g. eqb (g .parent) r) (L .regions)
 
--- ---- Marks (document 01, The store)
+-- ---- Marks (document 01, The store; mark 3 as document 02, card 1, widens it)
 
--- May a word of an object of region h, below region u (0 for none), lead into region t? By mark: 0 data, 1 free, 2 same, 3 up, 4 forever
-abbrev pub rule : ℕ → ℕ → ℕ → ℕ → Bool
-rule k t h u = getD (false ∷ true ∷ eqb t h ∷ (eqb t h || eqb t u) ∷ eqb t 1 ∷ []) k false
+-- the regions met on the way up from region r: the one above it, then the one above that, until none is above; n of them at most
+unfoldable pub upward : (ℕ → ℕ) → ℕ → ℕ → List ℕ
+upward parent zero r = []
+upward parent (suc n) r = pick (eqb (parent r) 0) [] (parent r ∷ upward parent n (parent r))
+
+-- all regions above r: the deepest level is 16, so that no climb is longer
+abbrev pub above : (ℕ → ℕ) → ℕ → List ℕ
+above parent r = upward parent 16 r
+
+-- May a word of an object of region h, with the regions us above it, lead into region t? By mark: 0 data, 1 free, 2 same, 3 up, 4 forever
+abbrev pub rule : ℕ → ℕ → ℕ → List ℕ → Bool
+rule k t h us = getD (false ∷ true ∷ eqb t h ∷ (eqb t h || among t us) ∷ eqb t 1 ∷ []) k false
 
 -- a word marked k of an object of region h may hold pointer p
 unfoldable pub allowed : (ℕ → ℕ) → (ℕ → ℕ) → ℕ → ℕ → ℕ → Bool
-allowed parent home h k p = eqb p 0 || rule k (home p) h (parent h)
+allowed parent home h k p = eqb p 0 || rule k (home p) h (above parent h)

@@ -7,7 +7,7 @@ use Prim.Native.Nat.{ℕ, suc, _+_}
 use lib.Dec.{eqb, leb}
 use lib.ListN.{length, getD}
 use Rattle.lists.specs.Lists.{pick, anyOf, every, keep, findOr, sumOf, countOf, joined, upTo, times}
-use Rattle.model.specs.Model.{marks, rule}
+use Rattle.model.specs.Model.{marks, above, rule}
 use Rattle.frames.specs.Frames.{frameCount, widthAt, slotAt}
 use Rattle.kinds.specs.Kinds.{kindCount, sizeOf, markAt}
 use Rattle.regions.specs.Regions.{nameAt, nameOf, parentAt, countAt, entryOf}
@@ -84,8 +84,12 @@ begin S = record {
 abbrev pub isLive : History → ℕ → Bool
 isLive h r = anyOf (λ g. eqb (g .name) r) (h .regions)
 
+-- the region directly above r, 0 for none, and all regions above it
 abbrev pub parentOf : History → ℕ → ℕ
 parentOf h r = (findOr (λ g. eqb (g .name) r) (record { name = 0; parent = 0 }) (h .regions)) .parent
+
+abbrev pub aboveOf : History → ℕ → List ℕ
+aboveOf h r = above (parentOf h) r
 
 -- the values of the slots of frame i
 unfoldable pub slotsOf : History → Store → ℕ → List ℕ
@@ -148,7 +152,7 @@ slotsLead h S = every (λ i. every (λ v. eqb v 0 || leads h v) (slotsOf h S i))
 -- every pointer word too is null or leads to a live object, and to one that its mark allows
 unfoldable pub wordsLead : History → Store → Bool
 wordsLead h S =
-    every (λ o. every (λ w. eqb (w .value) 0 || (leads h (w .value) && rule (w .mark) (homeOf h (w .value)) (o .home) (parentOf h (o .home)))) (pointersOf h S o)) (h .objects)
+    every (λ o. every (λ w. eqb (w .value) 0 || (leads h (w .value) && rule (w .mark) (homeOf h (w .value)) (o .home) (aboveOf h (o .home)))) (pointersOf h S o)) (h .objects)
 
 -- the regions that hold page j
 abbrev pub holders : History → ℕ → List ℕ

@@ -7,13 +7,12 @@ use Prim.Native.Nat.{ℕ, _+_, _-_, _%_}
 use lib.Dec.{eqb, leb}
 use lib.ListN.{getD}
 use Rattle.lists.specs.Lists.{sumOf, anyOf, from, upTo, times, among}
-use Rattle.model.specs.Model.{rule}
 use Rattle.frames.specs.declared.Frames.{Frames}
 use Rattle.frames.specs.Frames.{frameCountIn, topFrame, widthIn, slotIn, slotAt}
 use Rattle.kinds.specs.declared.Kinds.{Kinds}
 use Rattle.kinds.specs.Kinds.{sizeOf}
 use Rattle.regions.specs.declared.Regions.{Regions}
-use Rattle.regions.specs.Regions.{nameIn, newestAt, countAt}
+use Rattle.regions.specs.Regions.{allowsIn, newestAt, countAt}
 use Rattle.pages.specs.declared.Pages.{Pages}
 use Rattle.pages.specs.Pages.{takenIn, ownerIn, ownerOf}
 use Rattle.objects.specs.Objects.{markOf}
@@ -69,13 +68,13 @@ ledIn standing counted widths slots owners t = anyOf (λ i. among t (targetsIn w
 unfoldable pub ledInto : Store → ℕ → Bool
 ledInto S t = let f = frames S in ledIn (f .standing) (f .counted) (f .widths) (f .slots) ((pages S) .owners) t
 
--- x, which leads into the region with tag t, breaks the mark m of a word of the region with tag h, by the names and the regions above
-unfoldable pub breaksIn : List ℕ → List ℕ → ℕ → ℕ → ℕ → ℕ → Bool
-breaksIn names parents m h x t = not (eqb x 0 || rule m (nameIn names t) (nameIn names h) (nameIn names (getD parents (h - 1) 0)))
+-- x, which leads into the region with tag t, breaks the mark m of a word of the region with tag h
+unfoldable pub breaksIn : List ℕ → List ℕ → List ℕ → ℕ → ℕ → ℕ → ℕ → Bool
+breaksIn names parents levels m h x t = not (eqb x 0 || allowsIn names parents levels m h t)
 
 -- the value x breaks the mark of word w of the object that v leads to (document 01, The store, on marks)
 unfoldable pub breaks : Store → ℕ → ℕ → ℕ → Bool
-breaks S v w x = breaksIn ((regions S) .names) ((regions S) .parents) (markOf (kinds S) (S .heap) v w) (ownerOf (pages S) v) x (ownerOf (pages S) x)
+breaks S v w x = breaksIn ((regions S) .names) ((regions S) .parents) ((regions S) .levels) (markOf (kinds S) (S .heap) v w) (ownerOf (pages S) v) x (ownerOf (pages S) x)
 
 -- the words that an object of kind k takes, its header too
 unfoldable pub size : Store → ℕ → ℕ

@@ -1,6 +1,6 @@
 -- The objects of the model that an audited memory lists are valid and lie in the heap.
 -- Assumes nothing.
-use mathlib.Core.Path.{_≡_, refl, sym, ap, _∙_, subst}
+use mathlib.Core.Path.{_≡_, refl, sym, ap, _∙_, subst, fun-ext}
 use mathlib.Core.Logic.{_≢_}
 use mathlib.Core.Bool.{Bool, true, false, _&&_, _||_, true≢false}
 use mathlib.Core.List.{List, [], map}
@@ -15,12 +15,12 @@ use Rattle.lists.specs.Laws.All.{all-in, all-change}
 use Rattle.lists.specs.Laws.Finds.{every-true}
 use Rattle.lists.specs.Laws.UpTo.{every-each, getD-map-upTo, length-map-upTo}
 use Rattle.lists.specs.Laws.Kept.{map-all, map-map, all-places, find-map, all₂-each}
-use Rattle.model.specs.Model.{Region, noObject, noRegion, marks, livesIn, homeIn, parentIn, rule, allowed}
+use Rattle.model.specs.Model.{Region, noObject, noRegion, marks, livesIn, homeIn, parentIn, above, rule, allowed}
 use Rattle.model.specs.Valid.{ValidObject, fine}
 use Rattle.model.specs.Laws.Regions.{live-all}
 use Rattle.pages.specs.Pages.{ownerAt, takenAt}
 use Rattle.outcomes.specs.Store.{Store, kinds, regions, pages}
-use Rattle.outcomes.specs.History.{begin, entries, listedKinds, listedRegions, pointersOf, wordsLead, leads, homeOf, parentOf}
+use Rattle.outcomes.specs.History.{begin, entries, listedKinds, listedRegions, pointersOf, wordsLead, leads, homeOf, parentOf, aboveOf}
 use Rattle.outcomes.specs.History as history
 use Rattle.outcomes.specs.Sound.{Sound}
 use Rattle.outcomes.specs.Shape.{Sized}
@@ -63,14 +63,14 @@ module _ (S : Store) where
   module _ (sh : Sized S) (so : Sound S) where
     -- what the audit's test says of a pointer word
     abbrev test : ℕ → ℕ → ℕ → Bool
-    test q k x = eqb x 0 || (leads (begin S) x && rule k (homeOf (begin S) x) (holderOf S (q / 64)) (parentOf (begin S) (holderOf S (q / 64))))
+    test q k x = eqb x 0 || (leads (begin S) x && rule k (homeOf (begin S) x) (holderOf S (q / 64)) (aboveOf (begin S) (holderOf S (q / 64))))
 
     word-passes : (i w : ℕ) → i < length (headers S) → w < wordsAt S (header S i) → getD (marksOf (header S i)) w 0 ≢ 0 → test (header S i) (getD (marksOf (header S i)) w 0) (valueAt S (header S i) w) ≡ true
     unfolding wordsLead
     word-passes i w h k n =
         let q = header S i in
         let m = getD (marksOf q) w 0 in
-        let right : ℕ → ℕ → ℕ → Bool = λ r k x. eqb x 0 || (leads (begin S) x && rule k (homeOf (begin S) x) r (parentOf (begin S) r)) in
+        let right : ℕ → ℕ → ℕ → Bool = λ r k x. eqb x 0 || (leads (begin S) x && rule k (homeOf (begin S) x) r (aboveOf (begin S) r)) in
         let all = subst (All (λ o. every (λ x. right (o .home) (x .mark) (x .value)) (pointersOf (begin S) S o) ≡ true)) (begin-objects S) (every-true _ ((begin S) .objects) (so .words)) in
         let one = all-in (λ q. every (λ x. right (holderOf S (q / 64)) (x .mark) (x .value)) (pointersOf (begin S) S (objectAt S q)) ≡ true) (headers S) i 0 (map-all _ (objectAt S) (headers S) all) h in
         let e = every-each _ (wordsAt S q) (sym (every-pointer S (objectAt S q) (right (holderOf S (q / 64)))) ∙ one) w k in
@@ -86,6 +86,9 @@ module _ (S : Store) where
     parents-same r = ap (λ gs. (findOr (λ (g : history.Region). eqb (g .name) r) (record { name = 0; parent = 0 }) gs) .parent) begin-regions
         ∙ ap (λ g. g .parent) (find-map (λ g. eqb (g .name) r) listed noRegion ((rebuilt S) .regions))
 
+    above-same : (r : ℕ) → aboveOf (begin S) r ≡ above (parentIn (rebuilt S)) r
+    above-same r = ap (λ p. above p r) (fun-ext parents-same)
+
     word-fine : (i w : ℕ) → i < length (headers S) → w < wordsAt S (header S i)
         → fine (livesIn (rebuilt S)) (parentIn (rebuilt S)) (homeIn (rebuilt S)) (holderOf S (header S i / 64)) (getD (marksOf (header S i)) w 0) (getD ((readObject S (header S i)) .words) w 0) ≡ true
     unfolding allowed
@@ -95,8 +98,8 @@ module _ (S : Store) where
         let m = getD (marksOf q) w 0 in
         rw (word-at q w l) (by-test (eqb m 0) (λ e. rw e) (λ e.
         let k = word-known i w h l (eqb-false m 0 e) in
-        rw (e, k .live, k .null, k .home, ← (parents-same (holderOf S (q / 64))))
-        (or-rule (eqb x 0) (leads (begin S) x) (rule m (homeOf (begin S) x) (holderOf S (q / 64)) (parentOf (begin S) (holderOf S (q / 64)))) (word-passes i w h l (eqb-false m 0 e)))))
+        rw (e, k .live, k .null, k .home, ← (above-same (holderOf S (q / 64))))
+        (or-rule (eqb x 0) (leads (begin S) x) (rule m (homeOf (begin S) x) (holderOf S (q / 64)) (aboveOf (begin S) (holderOf S (q / 64)))) (word-passes i w h l (eqb-false m 0 e)))))
 
     marks-few : (k : ℕ) → 0 < length (marks (listedKinds S) k) → (1 ≤ k) × (k ≤ length (listedKinds S))
     marks-few zero h = absurd (omega arith)

@@ -19,7 +19,7 @@ use Rattle.model.specs.Valid.{Valid, known}
 use Rattle.model.specs.Laws.Slots.{Known, slot-known, object-valid}
 use Rattle.frames.specs.Frames.{slotAt}
 use Rattle.outcomes.specs.Store.{Store, frames, regions, pages}
-use Rattle.outcomes.specs.History.{History, Word, slotsOf, pointersOf, leads, homeOf, parentOf, slotsLeadingTo, wordsLeadingTo, uncountedInto, slotsLead, wordsLead}
+use Rattle.outcomes.specs.History.{History, Word, slotsOf, pointersOf, leads, homeOf, aboveOf, slotsLeadingTo, wordsLeadingTo, uncountedInto, slotsLead, wordsLead}
 use Rattle.outcomes.specs.History as history
 use Rattle.refinement.specs.Represents.{spot, Alive, wordsIn, idsIn, FramesAgree, ObjectsAgree}
 use Rattle.refinement.specs.Laws.Reads.{by-known, spot-zero}
@@ -27,7 +27,7 @@ use Rattle.refinement.specs.Laws.Counts.{word-known}
 use Rattle.refinement.specs.Laws.Walks.{marksIn}
 use Rattle.refinement.specs.Laws.Report.{weight, ids-objects}
 use Rattle.lists.specs.Laws.Kept.{sum-above}
-use Rattle.histories.specs.Laws.Tells.{met, Tells, frames-length, each-met, parent-is, leads-to, home-is}
+use Rattle.histories.specs.Laws.Tells.{met, Tells, frames-length, each-met, above-is, leads-to, home-is}
 
 module _ {L : Model} {sp : List ℕ} {ids : ℕ → List ℕ} {h : History} (S : Store) (t : Tells L sp h) (v : Valid L) (onFrames : FramesAgree sp (L .frames) (L .counted) (frames S))
     (onObjects : ObjectsAgree L sp ids (regions S) (pages S) (S .heap)) where
@@ -89,7 +89,7 @@ module _ {L : Model} {sp : List ℕ} {ids : ℕ → List ℕ} {h : History} (S :
   pub words-lead : wordsLead h S ≡ true
   unfolding wordsLead allowed
   words-lead = each-met t _ (λ q l.
-      let test : Word → Bool = λ w. eqb (w .value) 0 || (leads h (w .value) && rule (w .mark) (homeOf h (w .value)) (homeIn L q) (parentOf h (homeIn L q))) in
+      let test : Word → Bool = λ w. eqb (w .value) 0 || (leads h (w .value) && rule (w .mark) (homeOf h (w .value)) (homeIn L q) (aboveOf h (homeIn L q))) in
       let all = map (wordMarked q) (upTo (length (marksIn L q))) in
       ap (every test) (pointers-are q) ∙ true-every test (keep (λ w. not (eqb (w .mark) 0)) all) (all-map (λ x k. k .0 (k .1)) (keep (λ w. not (eqb (w .mark) 0)) all)
       (all-keep (λ x. not (eqb (x .mark) 0) ≡ true → test x ≡ true) _ all (all-change (λ w. not (eqb (getD (marksIn L q) w 0) 0) ≡ true → test (wordMarked q w) ≡ true) _ (wordMarked q) (λ w e. e) (upTo (length (marksIn L q)))
@@ -97,13 +97,13 @@ module _ {L : Model} {sp : List ℕ} {ids : ℕ → List ℕ} {h : History} (S :
     where
       word : (q : ℕ) → Alive L q → (w : ℕ) → w < length (marksIn L q) → eqb (getD (marksIn L q) w 0) 0 ≡ false
           → (eqb (getD (S .heap) (spot sp q - 1 + 1 + w) 0) 0
-          || (leads h (getD (S .heap) (spot sp q - 1 + 1 + w) 0) && rule (getD (marksIn L q) w 0) (homeOf h (getD (S .heap) (spot sp q - 1 + 1 + w) 0)) (homeIn L q) (parentOf h (homeIn L q)))) ≡ true
+          || (leads h (getD (S .heap) (spot sp q - 1 + 1 + w) 0) && rule (getD (marksIn L q) w 0) (homeOf h (getD (S .heap) (spot sp q - 1 + 1 + w) 0)) (homeIn L q) (aboveOf h (homeIn L q)))) ≡ true
       word q l w k z =
           let x = getD (wordsIn L q) w 0 in
           let o = object-valid L v q l in
           let n = word-value q l w k z in
           let f = both (known (livesIn L) (homeIn L) x) _ (rw z at (all₂-in _ (marksIn L q) (wordsIn L q) w 0 0 (o .fineWords l) k (omega (arith, o .sized)))) in
-          rw (n .0, home-is t v onObjects x (n .1), parent-is t v (homeIn L q) l, spot-zero onObjects x (n .1)) (by-test (eqb x 0) (λ e. rw e) (λ e.
+          rw (n .0, home-is t v onObjects x (n .1), above-is t v (homeIn L q) l, spot-zero onObjects x (n .1)) (by-test (eqb x 0) (λ e. rw e) (λ e.
           rw (e, rw (spot-zero onObjects x (n .1), e) at (pointer-leads x (n .1)), rw e at (f .1))))
 
   module _ (r : ℕ) where

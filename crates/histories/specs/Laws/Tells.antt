@@ -13,13 +13,14 @@ use Rattle.lists.specs.Laws.Tests.{by-test, bit-zero, or-right}
 use Rattle.lists.specs.Laws.All.{all-map}
 use Rattle.lists.specs.Laws.Sums.{sum-zero, sum-nothing}
 use Rattle.lists.specs.Laws.Finds.{any-count, find-none, sum-one, true-every}
-use Rattle.model.specs.Model.{Model, Region, noRegion, called, object, livesIn, homeIn, parentIn, subregions}
+use Rattle.model.specs.Model.{Model, Region, noRegion, called, object, livesIn, homeIn, parentIn, subregions, above}
 use Rattle.model.specs.Valid.{Valid}
 use Rattle.model.specs.Laws.Slots.{Known, in-list}
 use Rattle.model.specs.Laws.Regions.{distinct-one}
+use Rattle.model.specs.Laws.Upward.{upward-same, parent-lives}
 use Rattle.regions.specs.declared.Regions.{Regions}
 use Rattle.pages.specs.declared.Pages.{Pages}
-use Rattle.outcomes.specs.History.{History, isLive, parentOf, at, leads, homeOf}
+use Rattle.outcomes.specs.History.{History, isLive, parentOf, aboveOf, at, leads, homeOf}
 use Rattle.outcomes.specs.History as history
 use Rattle.refinement.specs.Represents.{spot, Alive, idsIn, ObjectsAgree}
 use Rattle.refinement.specs.Laws.Reads.{by-known, spot-same}
@@ -78,6 +79,9 @@ module _ {L : Model} {sp : List ℕ} {h : History} (t : Tells L sp h) where
         sym (sum-one (λ g. eqb (g .name) r) (λ g. g .parent) (record { name = 0; parent = 0 }) (h .regions) (t .regions (λ g. bit (eqb (g .name) r)) ∙ one))
         ∙ t .regions (λ g. pick (eqb (g .name) r) (g .parent) 0)
         ∙ sum-one (called r) (λ g. g .parent) noRegion (L .regions) one
+
+    pub above-is : (r : ℕ) → livesIn L r ≡ true → aboveOf h r ≡ above (parentIn L) r
+    above-is r l = upward-same (parentIn L) (parentOf h) (λ r. livesIn L r ≡ true) (parent-lives L v) parent-is 16 r l
 
     module _ {ids : ℕ → List ℕ} {g : Regions} {p : Pages} {heap : List ℕ} (a : ObjectsAgree L sp ids g p heap) where
       alive-known : (q : ℕ) → Alive L q → Known L q

@@ -164,7 +164,7 @@ pub region-stored : (L : Model) (r : ℕ) → Valid L → (q l : ℕ) → stored
 unfolding stored addRegion
 region-stored L r v q l =
     let g : Region = record { name = L .given + 1; parent = q; level = l; pages = 0; room = 0; oldest = 0 } in
-    ap (λ x. x + inFrames (homeIn L) r (take (L .counted) (L .frames))) (inWords-moved (region-extends L g refl) refl (L .kinds) (L .objects) r (v .objects))
+    ap (λ x. x + inFrames (homeIn L) r (take (L .counted) (L .frames))) (inWords-moved (region-extends L v g refl) refl (L .kinds) (L .objects) r (v .objects))
 
 words-append : (lives : ℕ → Bool) (home : ℕ → ℕ) (ks : List (List ℕ)) (os : List Object) (o : Object) (r : ℕ) → inWords lives home ks (os ++ (o ∷ [])) r ≡ inWords lives home ks os r + fromObject lives home ks r o
 unfolding inWords

@@ -1,42 +1,52 @@
 -- Regions that may go together leave a valid model, and so does an accepted delete.
 -- Assumes nothing.
 use mathlib.Core.Path.{_≡_, refl, ap, _∙_}
+use mathlib.Core.Logic.{_≢_}
 use mathlib.Core.Bool.{Bool, true, false, not, _||_, false≢true}
 use mathlib.Core.List.{List, [], _∷_}
 use Prim.Native.Nat.{ℕ, zero, suc}
 use native.Mathlib.Omega.{arith}
 use lib.Dec.{eqb}
 use borrow.Author.Tests.{eqb-true}
-use Rattle.lists.specs.Lists.{All₂, among}
+use Rattle.lists.specs.Lists.{All, All₂, among}
 use Rattle.lists.specs.Laws.Tests.{by-test}
 use Rattle.lists.specs.Laws.All.{all-map, all-both, all₂-both}
 use Rattle.lists.specs.Laws.Sums.{length-keep, count-most}
 use Rattle.lists.specs.Laws.Finds.{all-keep}
-use Rattle.model.specs.Model.{Model, Object, Region, live, parentOf, marks, livesIn, homeIn, parentIn, rule, delete}
+use Rattle.lists.specs.Laws.Kept.{all-among}
+use Rattle.model.specs.Model.{Model, Object, Region, live, parentOf, marks, livesIn, homeIn, parentIn, above, rule, delete}
 use Rattle.model.specs.Calls.{refusal, accepted, others, removeRegions}
 use Rattle.model.specs.Valid.{Valid, ValidObject, ValidParent, known}
+use Rattle.model.specs.Laws.Upward.{upward-all, upward-same}
 use Rattle.model.specs.Laws.Slots.{ValidIn}
 use Rattle.model.specs.Laws.Grows.{known-moved, fine-moved}
 use Rattle.model.specs.Laws.Regions.{live-others, region-others, level-others, not-removed, lived-before, distinct-keep}
 use Rattle.model.specs.Laws.Removable.{Removable, Away, parent-away, removable-one}
 
--- A word in a region q, neither a member nor directly below one, that keeps its mark's rule leads into no member, if it does not where it is marked 1.
-word-away : (home parent : ℕ → ℕ) (rs : List ℕ) (q k p : ℕ) → among 1 rs ≡ false → among q rs ≡ false → among (parent q) rs ≡ false → (eqb k 1 ≡ true → among (home p) rs ≡ false)
-    → rule k (home p) q (parent q) ≡ true → among (home p) rs ≡ false
-word-away home parent rs q zero p a b c f e = absurd (false≢true e)
-word-away home parent rs q (suc zero) p a b c f e = f refl
-word-away home parent rs q (suc (suc zero)) p a b c f e = rw (eqb-true (home p) q e) b
-word-away home parent rs q (suc (suc (suc zero))) p a b c f e = go (eqb (home p) q) refl e
+-- A word in a region q, where neither q nor a region above it is a member, that keeps its mark's rule leads into no member, if it does not where it is marked 1.
+word-away : (home : ℕ → ℕ) (us rs : List ℕ) (q k p : ℕ) → among 1 rs ≡ false → among q rs ≡ false → All (λ u. among u rs ≡ false) us → (eqb k 1 ≡ true → among (home p) rs ≡ false)
+    → rule k (home p) q us ≡ true → among (home p) rs ≡ false
+word-away home us rs q zero p a b c f e = absurd (false≢true e)
+word-away home us rs q (suc zero) p a b c f e = f refl
+word-away home us rs q (suc (suc zero)) p a b c f e = rw (eqb-true (home p) q e) b
+word-away home us rs q (suc (suc (suc zero))) p a b c f e = go (eqb (home p) q) refl e
   where
-    go : (t : Bool) → eqb (home p) q ≡ t → (t || eqb (home p) (parent q)) ≡ true → among (home p) rs ≡ false
+    go : (t : Bool) → eqb (home p) q ≡ t → (t || among (home p) us) ≡ true → among (home p) rs ≡ false
     go true z e = rw (eqb-true (home p) q z) b
-    go false z e = rw (eqb-true (home p) (parent q) e) c
-word-away home parent rs q (suc (suc (suc (suc zero)))) p a b c f e = rw (eqb-true (home p) 1 e) a
-word-away home parent rs q (suc (suc (suc (suc (suc k))))) p a b c f e = absurd (false≢true e)
+    go false z e = all-among (λ u. among u rs ≡ false) us c (home p) e
+word-away home us rs q (suc (suc (suc (suc zero)))) p a b c f e = rw (eqb-true (home p) 1 e) a
+word-away home us rs q (suc (suc (suc (suc (suc k))))) p a b c f e = absurd (false≢true e)
 
 module _ (L : Model) (v : Valid L) (rs : List ℕ) (m : Removable L rs) where
   abbrev left : List Region
   left = others (L .regions) rs
+
+  -- the climb from a region that stays meets only regions that stay
+  abbrev Stays : ℕ → Type 0
+  Stays r = among r rs ≡ false
+
+  stays : (r : ℕ) → Stays r → parentIn L r ≢ 0 → Stays (parentIn L r)
+  stays r a h = parent-away m v r a
 
   parent-left : (g : Region) → ValidParent (L .regions) g → among (g .parent) rs ≡ false → ValidParent left g
   parent-left g u a = record { parent = rw (live-others (L .regions) rs (g .parent) a) (u .parent); level = rw (level-others (L .regions) rs (g .parent) a) (u .level); deep = u .deep }
@@ -55,8 +65,8 @@ module _ (L : Model) (v : Valid L) (rs : List ℕ) (m : Removable L rs) where
         let a = not-removed (L .regions) rs (o .home) l in
         let b = lived-before (L .regions) rs (o .home) l in
         all₂-both _ _ _ (λ k p f z. fine-moved (livesIn L) (live left) (parentIn L) (parentOf left) (homeIn L) (homeIn L) (o .home) k p
-        (ap (λ x. x .parent) (region-others (L .regions) rs (o .home) a))
-        (λ l₂ e. (refl, live-others (L .regions) rs (homeIn L p) (word-away (homeIn L) (parentIn L) rs (o .home) k p (m .notOne) a (parent-away m v (o .home) a) z e) ∙ l₂)) f)
+        (upward-same (parentIn L) (parentOf left) Stays stays (λ r q. ap (λ x. x .parent) (region-others (L .regions) rs r q)) 16 (o .home) a)
+        (λ l₂ e. (refl, live-others (L .regions) rs (homeIn L p) (word-away (homeIn L) (above (parentIn L) (o .home)) rs (o .home) k p (m .notOne) a (upward-all (parentIn L) Stays stays 16 (o .home) a) z e) ∙ l₂)) f)
         (marks (L .kinds) (o .kind)) (o .words) (s .fineWords b) (w b a);
   }
 

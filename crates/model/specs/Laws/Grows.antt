@@ -1,6 +1,7 @@
 -- Calls that add a kind, a region or an object keep a valid model valid.
 -- Assumes nothing.
 use mathlib.Core.Path.{_≡_, refl, sym, ap, _∙_}
+use mathlib.Core.Logic.{_≢_}
 use mathlib.Core.Bool.{Bool, true, false, _&&_, _||_}
 use mathlib.Core.List.{List, [], _∷_, _++_, map}
 use Prim.Native.Nat.{ℕ, _+_, _≤_, _<_}
@@ -12,11 +13,12 @@ use Rattle.lists.specs.Lists.{pick, anyOf}
 use Rattle.lists.specs.Laws.Tests.{neither, both, or-right}
 use Rattle.lists.specs.Laws.All.{all-map, all-append, all-change, all-both, all₂-map, all₂-replicate}
 use Rattle.lists.specs.Laws.Finds.{any-false}
-use Rattle.model.specs.Model.{Model, Object, Region, called, live, region, homeOf, parentOf, marks, livesIn, homeIn, parentIn, rule, allowed}
+use Rattle.model.specs.Model.{Model, Object, Region, called, live, region, homeOf, parentOf, marks, livesIn, homeIn, parentIn, above, rule, allowed}
 use Rattle.model.specs.Model.{declare, newRegion, subregion, allocate}
 use Rattle.model.specs.Calls.{checks, refusal, accepted, addRegion, addObject, grown, size}
 use Rattle.model.specs.Valid.{Valid, ValidFrames, ValidObject, ValidParent, OwnOldest, known, fine, levelOf}
 use Rattle.model.specs.Laws.Passed.{passed}
+use Rattle.model.specs.Laws.Upward.{upward-same, parent-lives}
 use Rattle.model.specs.Laws.Slots.{in-list, fill-valid}
 use Rattle.model.specs.Laws.Regions.{live-zero, live-all, level-is, live-more, live-less, region-more, level-more, distinct-more, live-map, distinct-map, find-map, level-map, home-append, home-new, home-out}
 
@@ -62,18 +64,18 @@ known-moved lives lives₂ home home₂ p m h = go (eqb p 0) h
     go true e = refl
     go false e = rw (m e .0) (m e .1)
 
-pub fine-moved : (lives lives₂ : ℕ → Bool) (parent parent₂ home home₂ : ℕ → ℕ) (h k p : ℕ) → parent₂ h ≡ parent h
-    → (lives (home p) ≡ true → rule k (home p) h (parent h) ≡ true → (home₂ p ≡ home p) × (lives₂ (home p) ≡ true))
+pub fine-moved : (lives lives₂ : ℕ → Bool) (parent parent₂ home home₂ : ℕ → ℕ) (h k p : ℕ) → above parent₂ h ≡ above parent h
+    → (lives (home p) ≡ true → rule k (home p) h (above parent h) ≡ true → (home₂ p ≡ home p) × (lives₂ (home p) ≡ true))
     → fine lives parent home h k p ≡ true → fine lives₂ parent₂ home₂ h k p ≡ true
 unfolding allowed
 fine-moved lives lives₂ parent parent₂ home home₂ h k p u m e = go (eqb k 0) (eqb p 0) e
   where
-    go : (a b : Bool) → (a || ((b || lives (home p)) && (b || rule k (home p) h (parent h)))) ≡ true
-        → (a || ((b || lives₂ (home₂ p)) && (b || rule k (home₂ p) h (parent₂ h)))) ≡ true
+    go : (a b : Bool) → (a || ((b || lives (home p)) && (b || rule k (home p) h (above parent h)))) ≡ true
+        → (a || ((b || lives₂ (home₂ p)) && (b || rule k (home₂ p) h (above parent₂ h)))) ≡ true
     go true b e = refl
     go false true e = refl
     go false false e =
-        let q = both (lives (home p)) (rule k (home p) h (parent h)) e in
+        let q = both (lives (home p)) (rule k (home p) h (above parent h)) e in
         let r = m (q .0) (q .1) in
         rw (r .0, r .1, u) (q .1)
 
@@ -82,6 +84,7 @@ pub record Extends (lives lives₂ : ℕ → Bool) (parent parent₂ home home�
   pub back : (r : ℕ) → r ≤ given → lives₂ r ≡ true → lives r ≡ true
   pub forth : (r : ℕ) → lives r ≡ true → lives₂ r ≡ true
   pub parents : (r : ℕ) → lives r ≡ true → parent₂ r ≡ parent r
+  pub closed : (r : ℕ) → lives r ≡ true → parent r ≢ 0 → lives (parent r) ≡ true
   pub homes : (p : ℕ) → lives (home p) ≡ true → home₂ p ≡ home p
   pub grows : given ≤ given₂
 
@@ -100,18 +103,20 @@ module _ {lives lives₂ : ℕ → Bool} {parent parent₂ home home₂ : ℕ �
     kind = s .kind;
     sized = s .sized;
     fineWords = λ l. let l₁ = m .back (o .home) (s .homeGiven) l in
-        all₂-map (λ k p. fine-moved lives lives₂ parent parent₂ home home₂ (o .home) k p (m .parents (o .home) l₁) (λ l₂ r. (m .homes p l₂, m .forth (home p) l₂)))
+        all₂-map (λ k p. fine-moved lives lives₂ parent parent₂ home home₂ (o .home) k p
+        (upward-same parent parent₂ (λ r. lives r ≡ true) (m .closed) (m .parents) 16 (o .home) l₁) (λ l₂ r. (m .homes p l₂, m .forth (home p) l₂)))
         (marks ks (o .kind)) (o .words) (s .fineWords l₁);
   }
 
 -- ---- new region, subregion
 
-pub region-extends : (L : Model) (g : Region) → g .name ≡ L .given + 1
+pub region-extends : (L : Model) → Valid L → (g : Region) → g .name ≡ L .given + 1
     → Extends (livesIn L) (live (L .regions ++ (g ∷ []))) (parentIn L) (parentOf (L .regions ++ (g ∷ []))) (homeIn L) (homeIn L) (L .given) (L .given + 1)
-region-extends L g n = record {
+region-extends L v g n = record {
   back = λ r h l. sym (live-less (L .regions) g r (λ q. omega arith)) ∙ l;
   forth = λ r l. live-more (L .regions) g r l;
   parents = λ r l. ap (λ x. x .parent) (region-more (L .regions) g r l);
+  closed = λ r l. parent-lives L v r l;
   homes = λ p l. refl;
   grows = omega arith;
 }
@@ -122,7 +127,7 @@ unfolding addRegion
 add-region-valid L v r l a e d few last =
     let gs = L .regions in
     let g : Region = record { name = L .given + 1; parent = r; level = l; pages = 0; room = 0; oldest = 0 } in
-    let m = region-extends L g refl in
+    let m = region-extends L v g refl in
     record {
       kinds = v .kinds;
       names = record {
@@ -195,6 +200,7 @@ pub object-extends : (L : Model) → Valid L → (r n i : ℕ) (o : Object)
 object-extends L v r n i o = record {
   back = λ q h l. rw (live-map (change r n i) (name-kept r n i) (L .regions) q) at l;
   forth = λ q l. rw (live-map (change r n i) (name-kept r n i) (L .regions) q) l;
+  closed = λ q l. parent-lives L v q l;
   parents = λ q l. find-map (change r n i) (name-kept r n i) (λ x. x .parent) (parent-kept r n i) (L .regions) q;
   homes = λ p l. home-append (L .objects) o p (in-list L v p l);
   grows = omega arith;

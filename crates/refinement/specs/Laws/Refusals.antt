@@ -13,18 +13,18 @@ use Rattle.lists.specs.Laws.Tests.{by-test, neither, eqb-sym}
 use Rattle.lists.specs.Laws.Finds.{any-sum, any-count, every-same}
 use Rattle.lists.specs.Laws.UpTo.{all-upTo, every-places}
 use Rattle.model.specs.Model.{Model, Call, declare, newRegion, subregion, push, dropFrame, handBack, allocate, first, copy, fetch, clear, load, setPointer, put, get, view, same, about, report, totals, audit, delete}
-use Rattle.model.specs.Model.{region, livesIn, homeIn, parentIn, top, beneath, slot, inSlot, slotMarks, markAt, allowed, inFrames, stored, outside, subregions}
+use Rattle.model.specs.Model.{region, livesIn, homeIn, parentIn, top, beneath, slot, inSlot, slotMarks, markAt, above, allowed, inFrames, stored, outside, subregions}
 use Rattle.model.specs.Calls.{checks, refusal, lacks, noFrame, oneFrame, null, noWord, dead, size, fits}
 use Rattle.model.specs.Valid.{Valid}
 use Rattle.model.specs.Laws.Slots.{slot-lives}
 use Rattle.model.specs.Laws.Counts.{outside-stored}
 use Rattle.kinds.specs.Kinds.{sizeOf, markAt as kindMark, wrongMarks, allData as onlyData}
-use Rattle.regions.specs.Regions.{countAt, nameOf, entryOf, tagOf, parentAt, newestAt}
+use Rattle.regions.specs.Regions.{countAt, nameOf, entryOf, tagOf, newestAt, aboveIn, allowsIn}
 use Rattle.pages.specs.Pages.{takenAt, ownerOf}
 use Rattle.outcomes.specs.Store.{Store, frames, kinds, regions, pages, slot as storeSlot, slotTargets, uncountedIn, slotsBeyondIn, slotsBeyond, ledIn, ledInto, breaks, roomy, size as storeSize, breaksIn, roomyIn}
 use Rattle.outcomes.specs.Outcome.{checks as storeChecks, refusal as storeRefusal, badLength, noFrame as storeNoFrame, oneFrame as storeOneFrame, lacks as storeLacks, lacksBeneath, dead as storeDead, full, namesOut, noWord as storeNoWord, isData, allData}
 use Rattle.refinement.specs.Represents.{Represents, RoomAgrees, spot}
-use Rattle.refinement.specs.Laws.Tags.{live-is, live-count, parent-name, subregions-are}
+use Rattle.refinement.specs.Laws.Tags.{live-is, live-count, above-is, subregions-are}
 use Rattle.refinement.specs.Laws.Counts.{slots-beyond}
 use Rattle.refinement.specs.Laws.Reads.{top-width, beneath-width, kind-count, right-length, top-known, slot-is, spot-zero, kind-is, size-is, mark-is, owner-name}
 
@@ -96,15 +96,13 @@ module _ {L : Model} {sp : List ℕ} {ids : ℕ → List ℕ} {S : Store} (v : V
         (every-same _ _ (upTo (length (slotMarks L s))) (all-upTo _ (length (slotMarks L s)) (λ w b. rw (h .onKinds .marksAgree ((inSlot L s) .kind) w b) (eqb-sym (markAt L s w) 0)))
         ∙ every-places (eqb 0) (slotMarks L s) 0)
 
-  pub parent-is : (q : ℕ) → livesIn L (homeIn L q) ≡ true → nameOf (regions S) (parentAt (regions S) (ownerOf (pages S) (spot sp q) - 1)) ≡ parentIn L (homeIn L q)
-  unfolding tagOf
-  parent-is q l =
-      let e : ownerOf (pages S) (spot sp q) - 1 ≡ entryOf (regions S) (homeIn L q) = omega (arith, h .onObjects .owned q l) in
-      rw e (parent-name (h .onRegions) v (homeIn L q) l)
+  -- the regions above that of a live object
+  above-of : (q : ℕ) → livesIn L (homeIn L q) ≡ true → let g = regions S in aboveIn (g .names) (g .parents) (g .levels) (ownerOf (pages S) (spot sp q)) ≡ above (parentIn L) (homeIn L q)
+  above-of q l = let g = regions S in ap (aboveIn (g .names) (g .parents) (g .levels)) (h .onObjects .owned q l) ∙ above-is (h .onRegions) v (homeIn L q) l
 
   breaks-is : (s w t : ℕ) → lacks (top L) s ≡ false → lacks (top L) t ≡ false → null L s ≡ false → noWord L s w ≡ false
       → breaks S (storeSlot S s) w (storeSlot S t) ≡ not (allowed (parentIn L) (homeIn L) ((inSlot L s) .home) (markAt L s w) (slot L t))
-  unfolding breaks allowed breaksIn nameOf parentAt
+  unfolding breaks allowed breaksIn allowsIn nameOf
   breaks-is s w t k m n o = rw (
     slot-is h s k,
     slot-is h t m,
@@ -112,7 +110,7 @@ module _ {L : Model} {sp : List ℕ} {ids : ℕ → List ℕ} {S : Store} (v : V
     mark-is (h .onObjects) (h .onKinds) v (slot L s) w (top-known v s) (leb-false (length ((inSlot L s) .words)) w o),
     owner-name (h .onObjects) (h .onRegions) (slot L t) (top-known v t),
     owner-name (h .onObjects) (h .onRegions) (slot L s) (top-known v s),
-    parent-is (slot L s) (slot-lives L v s n),
+    above-of (slot L s) (slot-lives L v s n),
   )
 
   pub size-same : (k : ℕ) → storeSize S k ≡ size L k

@@ -4,7 +4,8 @@ use mathlib.Core.Path.{_≡_, refl, sym, ap, _∙_, fun-ext}
 use mathlib.Core.Logic.{_⊎_, inl, inr, _≢_}
 use mathlib.Core.Bool.{Bool, true, false, not, _&&_, _||_, true≢false}
 use mathlib.Core.List.{List, map}
-use Prim.Native.Nat.{ℕ, zero, suc, _<_, _≤_}
+use Prim.Native.Nat.{ℕ, zero, suc, _<_, _≤_, min}
+use native.Mathlib.Numerals.{add-one}
 use native.Mathlib.Omega.{arith}
 use lib.Dec.{eqb, ltb}
 use lib.ListN.{length}
@@ -16,12 +17,13 @@ use Rattle.lists.specs.Laws.Sums.{sum-same, sum-map, sum-ones, sum-pick}
 use Rattle.lists.specs.Laws.Finds.{any-map, any-same, false-any, any-count, find-none, all-find}
 use Rattle.lists.specs.Laws.Kept.{all-each, among-self, all-among}
 use Rattle.lists.specs.Laws.UpTo.{any-one, one-passes, sum-below}
-use Rattle.model.specs.Model.{Model, noRegion, called, livesIn, parentIn, subregions}
+use Rattle.model.specs.Model.{Model, noRegion, called, region, livesIn, parentIn, subregions, upward, above}
 use Rattle.model.specs.Valid.{Valid}
 use Rattle.model.specs.Laws.Regions.{distinct-once, found-itself}
+use Rattle.model.specs.Laws.Upward.{upward-map, parent-lives, level-deep, above-enough}
 use Rattle.regions.specs.declared.Regions.{Regions}
-use Rattle.regions.specs.Laws.Entries.{name-of, entry-find, entry-found, unused-found}
-use Rattle.regions.specs.Regions.{nameAt, nameOf, entryOf, tagOf, isLive, liveCount, parentAt, subregionsOf, unused, entryIn, liveIn, nameIn, subregionsIn}
+use Rattle.regions.specs.Laws.Entries.{name-none, name-of, entry-find, entry-found, unused-found}
+use Rattle.regions.specs.Regions.{nameAt, nameOf, entryOf, tagOf, isLive, liveCount, parentAt, subregionsOf, unused, entryIn, liveIn, nameIn, subregionsIn, levelAt, upIn, levelIn, aboveIn}
 use Rattle.refinement.specs.Represents.{RegionsAgree, tagFor}
 
 pub tag-some : (g : Regions) (r : ℕ) → tagOf g r ≢ 0
@@ -166,6 +168,42 @@ module _ {L : Model} {sp : List ℕ} {g : Regions} (a : RegionsAgree L sp g) whe
 
     pub parent-name : (r : ℕ) → livesIn L r ≡ true → nameOf g (parentAt g (entryOf g r)) ≡ parentIn L r
     parent-name r l = ap (nameOf g) (a .entry r l .parent) ∙ for-name (parentIn L r) (parent-known r)
+
+    -- t is the tag of a live region
+    abbrev Tag : ℕ → Type 0
+    Tag t = (r : ℕ) × (livesIn L r ≡ true) × (t ≡ tagOf g r)
+
+    -- one step up, by tags
+    up-is : (r : ℕ) → livesIn L r ≡ true → upIn (g .parents) (tagOf g r) ≡ tagFor g (parentIn L r)
+    unfolding upIn tagOf parentAt
+    up-is r l = rw (add-one (entryOf g r)) (a .entry r l .parent)
+
+    up-tag : (t : ℕ) → Tag t → upIn (g .parents) t ≢ 0 → Tag (upIn (g .parents) t)
+    up-tag t (r, l, e) h =
+        let u = ap (upIn (g .parents)) e ∙ up-is r l in
+        let n : parentIn L r ≢ 0 = λ z. h (u ∙ ap (tagFor g) z) in
+        (parentIn L r, parent-lives L v r l n, u ∙ for-some g (parentIn L r) n)
+
+    level-bound : (r : ℕ) → livesIn L r ≡ true → (region (L .regions) r) .level ≤ min (levelIn (g .levels) (tagOf g r)) 16
+    unfolding levelIn tagOf levelAt
+    level-bound r l =
+        let e : levelIn (g .levels) (tagOf g r) ≡ (region (L .regions) r) .level = rw (add-one (entryOf g r)) (a .entry r l .level) in
+        omega (arith, e, level-deep L v r l)
+
+    -- the climb by tags from a live region meets the regions above it, by name
+    pub above-is : (r : ℕ) → livesIn L r ≡ true → aboveIn (g .names) (g .parents) (g .levels) (tagOf g r) ≡ above (parentIn L) r
+    unfolding aboveIn nameOf
+    above-is r l =
+        let n = min (levelIn (g .levels) (tagOf g r)) 16 in
+        sym (upward-map (upIn (g .parents)) Tag up-tag (nameOf g) (parentIn L) (name-none g) named step n (tagOf g r) (r, l, refl))
+        ∙ ap (upward (parentIn L) n) (tag-name r l)
+        ∙ above-enough L v n r l (level-bound r l)
+      where
+        named : (t : ℕ) → Tag t → t ≢ 0 → nameOf g t ≢ 0
+        named t (q, m, e) h z = live-named q m (sym (tag-name q m) ∙ ap (nameOf g) (sym e) ∙ z)
+
+        step : (t : ℕ) → Tag t → parentIn L (nameOf g t) ≡ nameOf g (upIn (g .parents) t)
+        step t (q, m, e) = ap (parentIn L) (ap (nameOf g) e ∙ tag-name q m) ∙ sym (ap (nameOf g) (ap (upIn (g .parents)) e ∙ up-is q m) ∙ for-name (parentIn L q) (parent-known q))
 
     pub subregions-are : (r : ℕ) → livesIn L r ≡ true → subregionsOf g (tagOf g r) ≡ subregions L r
     unfolding subregionsOf subregionsIn nameAt parentAt
