@@ -11,7 +11,7 @@ use lib.ListN.{length}
 use borrow.Author.Tests.{eqb-true, eqb-false, ne-eqb, leb-true, not-true}
 use Rattle.model.specs.Laws.Climb.{climb-enough, climb-map}
 use Rattle.regions.specs.Regions.{nameAt, nameOf, nameIn, parentAt, levelAt, upIn, levelIn, aboveIn}
-use Rattle.regions.specs.Laws.Entries.{name-none, name-some}
+use Rattle.regions.specs.Laws.Entries.{name-none, name-some, level-in}
 use Rattle.outcomes.specs.Store.{Store, regions}
 use Rattle.outcomes.specs.History.{begin, parentOf, aboveOf}
 use Rattle.outcomes.specs.Laws.Begin.{used-below, parent-is}
@@ -31,7 +31,7 @@ module _ (S : Store) where
   abbrev level : ℕ → ℕ
   level = levelIn ((regions S) .levels)
 
-  -- the region above one lives, and is less deep
+  -- the region above one that lives does too, and is less deep; none is deeper than 16
   pub record Tree : Type 0 where
     pub lives : (t : ℕ) → Lives t → up t ≢ 0 → Lives (up t)
     pub falls : (t : ℕ) → Lives t → up t ≢ 0 → level (up t) < level t
@@ -39,15 +39,11 @@ module _ (S : Store) where
 
   -- ---- by the tests of the state
 
-  level-some : (t : ℕ) → t ≢ 0 → level t ≡ levelAt (regions S) (t - 1)
-  unfolding levelIn levelAt
-  level-some zero h = absurd (h refl)
-  level-some (suc i) h = let e : suc i - 1 ≡ i = omega arith in rw e
-
   module _ (names : length ((regions S) .names) ≡ 64) (e : stateFits (S .state) (length (S .heap)) ≡ true) where
     entry : (i : ℕ) → nameAt (regions S) i ≢ 0 → Region S e i
     entry i n = region S e i (used-below S names i n) n
 
+    -- the entry above, where there is one
     below : (i : ℕ) → nameAt (regions S) i ≢ 0 → parentAt (regions S) i ≢ 0
         → let p = parentAt (regions S) i - 1 in (nameAt (regions S) p ≢ 0) × (levelAt (regions S) i ≡ levelAt (regions S) p + 1)
     unfolding placedAt nameAt parentAt levelAt
@@ -65,7 +61,7 @@ module _ (S : Store) where
     up-falls : (t : ℕ) → Lives t → up t ≢ 0 → level (up t) < level t
     unfolding upIn levelIn nameOf nameIn nameAt parentAt levelAt
     up-falls zero n h = absurd (n refl)
-    up-falls (suc i) n h = omega (arith, level-some (parentAt (regions S) i) h, below i n h .1)
+    up-falls (suc i) n h = omega (arith, level-in ((regions S) .levels) (parentAt (regions S) i) h, below i n h .1)
 
     up-deep : (t : ℕ) → Lives t → level t ≤ 16
     unfolding levelIn nameOf nameIn nameAt levelAt
@@ -77,6 +73,7 @@ module _ (S : Store) where
 
   -- ---- the climb
 
+  -- one step
   step : Ordered S → (t : ℕ) → Lives t → parentOf (begin S) (nameOf (regions S) t) ≡ nameOf (regions S) (up t)
   unfolding upIn nameOf nameIn nameAt parentAt
   step h zero n = absurd (n refl)
