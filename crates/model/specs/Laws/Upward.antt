@@ -25,7 +25,7 @@ module _ (parent : ℕ → ℕ) (P : ℕ → Type 0) (closed : (r : ℕ) → P r
   pub upward-all : (n r : ℕ) → P r → All P (upward parent n r)
   unfolding upward
   upward-all zero r p = tt
-  upward-all (suc n) r p = by-test (eqb (parent r) 0) (λ e. rw e) (λ e. let q = closed r p (eqb-false (parent r) 0 e) in rw e (q, upward-all n (parent r) q))
+  upward-all (suc n) r p = by-test (eqb (parent r) 0) (λ e. rw e tt) (λ e. let q = closed r p (eqb-false (parent r) 0 e) in rw e (q, upward-all n (parent r) q))
 
   -- the level falls at each step: as many steps as the level are enough, and more change nothing
   module _ (level : ℕ → ℕ) (falls : (r : ℕ) → P r → parent r ≢ 0 → level (parent r) < level r) where
