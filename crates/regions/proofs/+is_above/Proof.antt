@@ -1,18 +1,12 @@
 -- is_above is right and ends, whatever the entries hold. The measure is the level.
 use mathlib.Core.Path.{_≡_, sym, _∙_}
-use mathlib.Core.Bool.{Bool, _||_}
-use mathlib.Core.List.{map}
 use Prim.Native.Nat.{ℕ, _-_, _<_}
 use native.Mathlib.Omega.{arith}
-use lib.Dec.{eqb}
 use borrow.Author.Needs.{needs}
-use borrow.Author.Tests.{eq-eqb, ne-eqb}
 use borrow.Fn.Kinds.{In}
 use borrow.Fn.PlainCycle.{Measures, is, falls, and}
-use Rattle.lists.specs.Lists.{among}
 use Rattle.model.specs.Model.{upward}
-use Rattle.regions.specs.Regions.{nameIn, upIn}
-use Rattle.regions.specs.Laws.Climb.{climb-end, climb-next}
+use Rattle.regions.specs.Laws.Climb.{meets, climb-end, climb-met, climb-on}
 use Rattle.regions.proofs.is_above.Reads as is-above
 use Rattle.regions.proofs.is_above.Kinds as kinds
 use Rattle.regions.proofs.+is_above.Lts-is_above as lts
@@ -32,42 +26,35 @@ abbrev calls : ℕ → lts.Claims
 calls l = (up-from.Asked, up-from.Learnt, name-of.Asked, name-of.Learnt, and 1 kinds.ps (falls 1 kinds.ps _<_ μ-is-above l) is-above.Pre, is-above.Post)
 
 module _ (l : ℕ) where
-  -- the level falls with each call of itself
+  -- the level falls
   is-above-requires : lts.Need-is-above-requires (calls l) (at l) is-above.Post
   is-above-requires c κs = (omega arith, tt)
+
+  -- the climb goes on from the region above, with a step less
+  goes-on : (c : lts.After-is-above (calls l) (at l) is-above.Post) →
+      let u = c .before .before .before .before in
+      let a = u .before .before .before .before .args in
+      c .is-above .result ≡ meets (a .names .now) (a .parents .now) (a .level - 1) (u .up-from .result) (a .n)
+  goes-on c = c .is-above .ensures
 
   returns : lts.Need-returns (calls l) (at l) is-above.Post
   unfolding upward
   returns c = rw (c .if1 .taken)
 
   returns-2 : lts.Need-returns-2 (calls l) (at l) is-above.Post
-  returns-2 c =
-      let u = c .before in
-      let a = u .before .before .before .before .args in
-      sym (climb-end (upIn (a .parents .now)) (nameIn (a .names .now)) (a .n) (a .t) (a .level) (sym (u .up-from .ensures) ∙ c .if2 .taken))
-
-  -- the region above is the one sought, or the climb goes on from there
-  step : (c : lts.Else2 (calls l) (at l) is-above.Post) →
-      let u = c .before in
-      let a = u .before .before .before .before .args in
-      among (a .n) (map (nameIn (a .names .now)) (upward (upIn (a .parents .now)) (a .level) (a .t)))
-      ≡ (eqb (nameIn (a .names .now) (u .up-from .result)) (a .n) || among (a .n) (map (nameIn (a .names .now)) (upward (upIn (a .parents .now)) (a .level - 1) (u .up-from .result))))
-  step c =
-      let u = c .before in
-      let a = u .before .before .before .before .args in
-      rw (u .up-from .ensures) (climb-next (upIn (a .parents .now)) (nameIn (a .names .now)) (a .n) (a .t) (a .level) (u .before .if1 .left) (λ e. c .if2 .left (u .up-from .ensures ∙ e)))
+  returns-2 c = let a = c .before .before .before .before .before .args in climb-end (a .names .now) _ (a .n) _ _ (c .before .up-from .ensures) (a .level) (c .if2 .taken)
 
   returns-3 : lts.Need-returns-3 (calls l) (at l) is-above.Post
-  returns-3 c = let n = c .before in rw (step (n .before), ← n .name-of .ensures, eq-eqb _ _ (c .if3 .taken))
-
-  goes-on : (c : lts.After-is-above (calls l) (at l) is-above.Post) →
-      let u = c .before .before .before .before in
-      let a = u .before .before .before .before .args in
-      c .is-above .result ≡ among (a .n) (map (nameIn (a .names .now)) (upward (upIn (a .parents .now)) (a .level - 1) (u .up-from .result)))
-  goes-on c = c .is-above .ensures
+  returns-3 c =
+      let n = c .before in
+      let u = n .before .before in
+      climb-met _ _ _ _ _ (u .up-from .ensures) _ (u .before .if1 .left) (n .before .if2 .left) (sym (n .name-of .ensures) ∙ c .if3 .taken)
 
   returns-4 : lts.Need-returns-4 (calls l) (at l) is-above.Post
-  returns-4 c = let n = c .before .before in rw (step (n .before), ← n .name-of .ensures, ne-eqb _ _ (c .before .if3 .left)) (goes-on c)
+  returns-4 c =
+      let n = c .before .before in
+      let u = n .before .before in
+      climb-on _ _ _ _ _ (u .up-from .ensures) _ (u .before .if1 .left) (n .before .if2 .left) (λ e. c .before .if3 .left (n .name-of .ensures ∙ e)) _ (goes-on c)
 
 pub +is-above-spec : {M : Type 1} → statement M
 +is-above-spec = close μ-is-above (λ l. lts.spec (calls l) (at l) is-above.Post (returns l) (λ c κs. search needs) (returns-2 l) (λ c κs. search needs) (returns-3 l) (λ c. search needs) (is-above-requires l) (returns-4 l))

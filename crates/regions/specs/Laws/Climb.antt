@@ -1,24 +1,32 @@
--- The climb to the regions above, step by step.
+-- The climb to the regions above, one step at a time.
 -- Assumes nothing.
-use mathlib.Core.Path.{_≡_, refl, ap}
-use mathlib.Core.Bool.{false, _||_}
+use mathlib.Core.Path.{_≡_, refl, sym, _∙_}
+use mathlib.Core.Bool.{Bool, true, false}
 use mathlib.Core.Logic.{_≢_}
-use mathlib.Core.List.{map}
+use mathlib.Core.List.{List, map}
 use Prim.Native.Nat.{ℕ, zero, suc, _-_}
 use native.Mathlib.Omega.{arith}
-use lib.Dec.{eqb}
-use borrow.Author.Tests.{ne-eqb}
+use borrow.Author.Tests.{eq-eqb, ne-eqb}
 use Rattle.lists.specs.Lists.{among}
 use Rattle.model.specs.Model.{upward}
 use Rattle.model.specs.Laws.Upward.{upward-end}
+use Rattle.regions.specs.Regions.{nameIn, upIn}
 
--- whether n is met on the way up from t, by what f makes of each
-module _ (parent f : ℕ → ℕ) (n t : ℕ) where
-  pub climb-end : (k : ℕ) → parent t ≡ 0 → among n (map f (upward parent k t)) ≡ false
-  climb-end k e = ap (λ us. among n (map f us)) (upward-end parent k t e)
+-- whether a region named n is met on the way up from the one with tag t, in k steps
+abbrev pub meets : List ℕ → List ℕ → ℕ → ℕ → ℕ → Bool
+meets names parents k t n = among n (map (nameIn names) (upward (upIn parents) k t))
 
-  -- either the next is met, or the climb goes on from it, with a step less
-  pub climb-next : (k : ℕ) → k ≢ 0 → parent t ≢ 0 → among n (map f (upward parent k t)) ≡ (eqb (f (parent t)) n || among n (map f (upward parent (k - 1) (parent t))))
+-- up is the tag of the region above
+module _ (names parents : List ℕ) (n t up : ℕ) (went : up ≡ upIn parents t) where
+  pub climb-end : (k : ℕ) → up ≡ 0 → false ≡ meets names parents k t n
+  climb-end k e = rw (upward-end (upIn parents) k t (sym went ∙ e))
+
+  pub climb-met : (k : ℕ) → k ≢ 0 → up ≢ 0 → nameIn names up ≡ n → true ≡ meets names parents k t n
   unfolding upward
-  climb-next zero h e = absurd (h refl)
-  climb-next (suc k) h e = let z : suc k - 1 ≡ k = omega arith in rw (z, ne-eqb (parent t) 0 e)
+  climb-met zero h e p = absurd (h refl)
+  climb-met (suc k) h e p = rw (← went, ne-eqb up 0 e, eq-eqb (nameIn names up) n p)
+
+  pub climb-on : (k : ℕ) → k ≢ 0 → up ≢ 0 → nameIn names up ≢ n → (r : Bool) → r ≡ meets names parents (k - 1) up n → r ≡ meets names parents k t n
+  unfolding upward
+  climb-on zero h e p r q = absurd (h refl)
+  climb-on (suc k) h e p r q = let z : suc k - 1 ≡ k = omega arith in rw (← went, ne-eqb up 0 e, ne-eqb (nameIn names up) n p, ← z) q
