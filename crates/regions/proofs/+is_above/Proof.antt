@@ -26,9 +26,9 @@ abbrev calls : ℕ → lts.Claims
 calls l = (up-from.Asked, up-from.Learnt, name-of.Asked, name-of.Learnt, and 1 kinds.ps (falls 1 kinds.ps _<_ μ-is-above l) is-above.Pre, is-above.Post)
 
 module _ (l : ℕ) where
-  -- the level falls
-  is-above-requires : lts.Need-is-above-requires (calls l) (at l) is-above.Post
-  is-above-requires c κs = (omega arith, tt)
+  -- the own call is at a lower level
+  level-falls : lts.Need-is-above-requires (calls l) (at l) is-above.Post
+  level-falls c κs = (omega arith, tt)
 
   -- the climb goes on from the region above, with a step less
   goes-on : (c : lts.After-is-above (calls l) (at l) is-above.Post) →
@@ -57,4 +57,4 @@ module _ (l : ℕ) where
       climb-on _ _ _ _ _ (u .up-from .ensures) _ (u .before .if1 .left) (n .before .if2 .left) (λ e. c .before .if3 .left (n .name-of .ensures ∙ e)) _ (goes-on c)
 
 pub +is-above-spec : {M : Type 1} → statement M
-+is-above-spec = close μ-is-above (λ l. lts.spec (calls l) (at l) is-above.Post (returns l) (λ c κs. search needs) (returns-2 l) (λ c κs. search needs) (returns-3 l) (λ c. search needs) (is-above-requires l) (returns-4 l))
++is-above-spec = close μ-is-above (λ l. lts.spec (calls l) (at l) is-above.Post (returns l) (λ c κs. search needs) (returns-2 l) (λ c κs. search needs) (returns-3 l) (λ c. search needs) (level-falls l) (returns-4 l))
