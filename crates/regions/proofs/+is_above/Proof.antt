@@ -5,8 +5,8 @@ use native.Mathlib.Omega.{arith}
 use borrow.Author.Needs.{needs}
 use borrow.Fn.Kinds.{In}
 use borrow.Fn.PlainCycle.{Measures, is, falls, and}
-use Rattle.model.specs.Model.{upward}
-use Rattle.regions.specs.Laws.Climb.{meets, climb-end, climb-met, climb-on}
+use Rattle.model.specs.Model.{climb}
+use Rattle.regions.specs.Laws.Climb.{meets, meets-end, meets-here, meets-on}
 use Rattle.regions.proofs.is_above.Reads as is-above
 use Rattle.regions.proofs.is_above.Kinds as kinds
 use Rattle.regions.proofs.+is_above.Lts-is_above as lts
@@ -38,23 +38,23 @@ module _ (l : ℕ) where
   goes-on c = c .is-above .ensures
 
   returns : lts.Need-returns (calls l) (at l) is-above.Post
-  unfolding upward
+  unfolding climb
   returns c = rw (c .if1 .taken)
 
   returns-2 : lts.Need-returns-2 (calls l) (at l) is-above.Post
-  returns-2 c = let a = c .before .before .before .before .before .args in climb-end (a .names .now) _ (a .n) _ _ (c .before .up-from .ensures) (a .level) (c .if2 .taken)
+  returns-2 c = let a = c .before .before .before .before .before .args in meets-end (a .names .now) _ (a .n) _ _ (c .before .up-from .ensures) (a .level) (c .if2 .taken)
 
   returns-3 : lts.Need-returns-3 (calls l) (at l) is-above.Post
   returns-3 c =
       let n = c .before in
       let u = n .before .before in
-      climb-met _ _ _ _ _ (u .up-from .ensures) _ (u .before .if1 .left) (n .before .if2 .left) (sym (n .name-of .ensures) ∙ c .if3 .taken)
+      meets-here _ _ _ _ _ (u .up-from .ensures) _ (u .before .if1 .left) (n .before .if2 .left) (sym (n .name-of .ensures) ∙ c .if3 .taken)
 
   returns-4 : lts.Need-returns-4 (calls l) (at l) is-above.Post
   returns-4 c =
       let n = c .before .before in
       let u = n .before .before in
-      climb-on _ _ _ _ _ (u .up-from .ensures) _ (u .before .if1 .left) (n .before .if2 .left) (λ e. c .before .if3 .left (n .name-of .ensures ∙ e)) _ (goes-on c)
+      meets-on _ _ _ _ _ (u .up-from .ensures) _ (u .before .if1 .left) (n .before .if2 .left) (λ e. c .before .if3 .left (n .name-of .ensures ∙ e)) _ (goes-on c)
 
 pub +is-above-spec : {M : Type 1} → statement M
 +is-above-spec = close μ-is-above (λ l. lts.spec (calls l) (at l) is-above.Post (returns l) (λ c κs. search needs) (returns-2 l) (λ c κs. search needs) (returns-3 l) (λ c. search needs) (level-falls l) (returns-4 l))

@@ -6,7 +6,7 @@ use mathlib.Core.List.{List, [], _∷_}
 use Prim.Native.Nat.{ℕ}
 use lib.Dec.{eqb}
 use Rattle.lists.specs.Lists.{bit, every}
-use Rattle.model.specs.Model.{upward}
+use Rattle.model.specs.Model.{climb}
 use Rattle.regions.specs.Regions.{nameIn, upIn, levelIn, aboveIn, allowsIn}
 
 -- At the tags 1 to 8: region 1; regions 5 to 8, each below the one before it; region 9 beside them; and two that stand above each other, which no audit passes.
@@ -46,5 +46,5 @@ cases =
     ∷ []
 
 pub computed : every (λ p. eqb (bit (allowsIn names parents levels (p .0) (p .1) (p .2))) (p .3)) cases ≡ true
-unfolding upward nameIn upIn levelIn aboveIn allowsIn
+unfolding climb nameIn upIn levelIn aboveIn allowsIn
 computed = refl
