@@ -26,6 +26,7 @@ run bench_changing, bench_pairs, bench_answering, bench_again;
 // A call as crates/bench reads it: its number and three arguments.
 #define CALL(number, a, b, c) ((number) * 1000000 + (a) * 10000 + (b) * 100 + (c))
 #define NEW_REGION CALL(3, 0, 0, 0)
+#define SUBREGION(above) CALL(4, above, 0, 0)
 #define PUSH(slots) CALL(5, slots, 0, 0)
 #define ALLOCATE(slot, region, kind) CALL(8, slot, region, kind)
 #define COPY(from, to) CALL(10, from, to, 0)
@@ -62,6 +63,9 @@ static const struct store full = {CODES(NEW_REGION, ALLOCATE(0, 2, 2), NEW_REGIO
 // Region 5 with 16 pages full of 256 objects of three free pointers, 768 in all, into regions 2 to 4; no slot leads into it.
 static const struct store heavy = {CODES(THREE, NEW_REGION), CODES(ALLOCATE(3, 5, 4), SET_POINTER(3, 0, 0), SET_POINTER(3, 1, 1), SET_POINTER(3, 2, 2), CLEAR(3)), 256};
 
+// Regions 2 to 17, each below the one before: an object with a word marked 3 in slot 0, at level 16, and two objects in slots 1 and 2 at level 1, the end of the way up.
+static const struct store deep = {CODES(NEW_REGION, SUBREGION(2), SUBREGION(3), SUBREGION(4), SUBREGION(5), SUBREGION(6), SUBREGION(7), SUBREGION(8), SUBREGION(9), SUBREGION(10), SUBREGION(11), SUBREGION(12), SUBREGION(13), SUBREGION(14), SUBREGION(15), SUBREGION(16), ALLOCATE(0, 17, 5), ALLOCATE(1, 2, 2), ALLOCATE(2, 2, 2)), CODES(0), 0};
+
 // `run` makes the call that has the number `which` there.
 // What a run of n calls gives is n / 2 * two + more: `two` is what the replies of two calls add up to (their refusals alone, where the state changes), `more` the audit in the end, where there is one.
 // `most` bounds n, where names of regions would run out. `count` is n where instructions are counted. Every n is even.
@@ -86,6 +90,7 @@ static const struct bench benches[] = {
     {"first", bench_changing, &plain, 9, 0, 1, MOST, 1000},
     {"load", bench_changing, &plain, 13, 0, 1, MOST, 1000},
     {"set_pointer", bench_changing, &plain, 14, 0, 1, MOST, 1000},
+    {"set_pointer_up", bench_changing, &deep, 14, 0, 1, MOST, 1000},
     {"allocate", bench_again, &plain, 8, 0, 1, MOST, 1000},
     {"allocate_page", bench_again, &empty, 108, 0, 1, MOST, 1000},
     {"put", bench_answering, &plain, 15, 0, 0, MOST, 1000},

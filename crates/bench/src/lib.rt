@@ -39,18 +39,20 @@ fn ended(s: State, heap: &[u32], sum: u32) -> u32 {
     noted(sum, store::audit(s, heap))
 }
 
-// The four kinds of every store here: a free pointer and a number; one free pointer; three numbers; three free pointers. And a frame of 8 slots.
+// The five kinds of every store here: a free pointer and a number; one free pointer; three numbers; three free pointers; one pointer marked 3. And a frame of 8 slots.
 fn begun(s: State, heap: &[u32]) -> State {
     let both = [1u32, 0];
     let pointer = [1u32];
     let data = [0u32, 0, 0];
     let pointers = [1u32, 1, 1];
+    let up = [3u32];
     let a = store::declare(s, heap, &both);
     let b = store::declare(a.state, heap, &pointer);
     let c = store::declare(b.state, heap, &data);
     let d = store::declare(c.state, heap, &pointers);
-    let e = store::push(d.state, heap, 8);
-    e.state
+    let e = store::declare(d.state, heap, &up);
+    let f = store::push(e.state, heap, 8);
+    f.state
 }
 
 // The calls that these codes say. A code has the call's number and three arguments of two digits each: 8000201 is allocate (8) in slot 0 for region 2, of kind 1.
