@@ -7,7 +7,7 @@ use lib.Dec.{eqb, ltb, leb}
 use lib.ListN.{length, getD, set, take, replicate}
 use Rattle.lists.specs.Lists.{bit, pick, anyOf, every, keep, sumOf, among}
 use Rattle.model.specs.Model.{Call, declare, newRegion, subregion, push, dropFrame, handBack, allocate, first, copy, fetch, clear, load, setPointer, put, get, view, same, about, report, totals, audit, delete}
-use Rattle.model.specs.Model.{Region, Object, Model, Answer, four, gives, refusedBy, called, region, marks, livesIn, homeIn, parentIn, topPlace, top, beneath, slot, inSlot, slotMarks, markAt, inFrames, fromObject, inWords, outside, stored, subregions, upward, allowed}
+use Rattle.model.specs.Model.{Region, Object, Model, Answer, four, gives, refusedBy, called, region, marks, livesIn, homeIn, parentIn, topPlace, top, beneath, slot, inSlot, slotMarks, markAt, inFrames, fromObject, inWords, outside, stored, subregions, climb, allowed}
 
 -- ---- Refusals (document 01, The calls). 21 is not among them: each call of a session gets the store's own heap
 
@@ -236,7 +236,7 @@ next L c = nextBy (refusal L c) L c
 
 -- what a list of calls answers, and the model that it leaves
 unfoldable pub run : Model → List Call → List Answer
-unfolding answer next refusal checks reply accepted fillSlot popFrame writeWord addRegion addObject grown removeRegions outside stored inWords inFrames fromObject upward allowed
+unfolding answer next refusal checks reply accepted fillSlot popFrame writeWord addRegion addObject grown removeRegions outside stored inWords inFrames fromObject climb allowed
 run L [] = []
 run L (c ∷ cs) = answer L c ∷ run (next L c) cs
 

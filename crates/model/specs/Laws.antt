@@ -2,7 +2,7 @@
 pub mod Sessions
 pub mod Passed
 pub mod Regions
-pub mod Upward
+pub mod Climb
 pub mod Slots
 pub mod Grows
 pub mod Removable

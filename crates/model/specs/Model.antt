@@ -180,13 +180,13 @@ subregions L r = countOf (λ g. eqb (g .parent) r) (L .regions)
 -- ---- Marks (document 01, The store; mark 3 as document 02, card 1, widens it)
 
 -- the regions met on the way up from region r: the one above it, then the one above that, until none is above; n of them at most
-unfoldable pub upward : (ℕ → ℕ) → ℕ → ℕ → List ℕ
-upward parent zero r = []
-upward parent (suc n) r = pick (eqb (parent r) 0) [] (parent r ∷ upward parent n (parent r))
+unfoldable pub climb : (ℕ → ℕ) → ℕ → ℕ → List ℕ
+climb parent zero r = []
+climb parent (suc n) r = pick (eqb (parent r) 0) [] (parent r ∷ climb parent n (parent r))
 
 -- all regions above r: the deepest level is 16, so that no climb is longer
 abbrev pub above : (ℕ → ℕ) → ℕ → List ℕ
-above parent r = upward parent 16 r
+above parent r = climb parent 16 r
 
 -- May a word of an object of region h, with the regions us above it, lead into region t? By mark: 0 data, 1 free, 2 same, 3 up, 4 forever
 abbrev pub rule : ℕ → ℕ → ℕ → List ℕ → Bool

@@ -4,7 +4,7 @@ ghost use mathlib.Core.List.{map};
 ghost use Prim.Native.Nat.{_+_, _%_, min};
 ghost use lib.ListN.{getD, set};
 ghost use Rattle.lists.specs.Lists.{among};
-ghost use Rattle.model.specs.Model.{upward};
+ghost use Rattle.model.specs.Model.{climb};
 ghost use Rattle.regions.specs.Regions.{nameIn, entryIn, unusedIn, liveIn, subregionsIn, upIn, levelIn, allowsIn};
 ghost use Rattle.regions.specs.Laws.Counts.{Counts};
 ghost use Rattle.regions.specs.Laws.Steps.{entering, leaving};
@@ -112,7 +112,7 @@ fn level_from(levels: &[u8], t: u32) -> u32
 // Whether a region named n is met on the way up from the region with that tag, which is at that level. With each step up the level falls by one, and it is
 // never read again: so the climb ends, also where the regions above stand in a ring (document 02, card 1).
 fn is_above<'a>(names: &'a [u32], parents: &'a [u8], level: u32, t: u32, n: u32) -> bool
-    ensures { λ r. ⌜ r ≡ among n (map (nameIn (now (names .entry))) (upward (upIn (now (parents .entry))) level t)) ⌝ }
+    ensures { λ r. ⌜ r ≡ among n (map (nameIn (now (names .entry))) (climb (upIn (now (parents .entry))) level t)) ⌝ }
 {
     if level == 0 {
         return false;

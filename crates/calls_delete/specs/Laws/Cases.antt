@@ -7,7 +7,7 @@ use Prim.Native.Nat.{ℕ}
 use lib.Dec.{eqb}
 use lib.ListN.{replicate}
 use Rattle.lists.specs.Lists.{every, equal, upTo}
-use Rattle.model.specs.Model.{delete, upward}
+use Rattle.model.specs.Model.{delete, climb}
 use Rattle.frames.specs.Frames.{frameCount, topFrame, widthAt, slotAt, raised}
 use Rattle.kinds.specs.Kinds.{kindCount, sizeOf, markAt, sizeIn}
 use Rattle.regions.specs.Regions.{nameAt, nameOf, nameIn, entryOf, tagOf, isLive, parentAt, levelAt, newestAt, oldestAt, subregionsOf, countAt, withoutRegions, withCounts, rolled, moved, entryIn, subregionsIn, recount}
@@ -62,7 +62,7 @@ goes = refl
 
 -- the audit accepts the memory with the two regions, and what is left without them
 exact : every sound (linked ∷ deleted linked (2 ∷ 3 ∷ []) ∷ deleted linked (3 ∷ 2 ∷ []) ∷ []) ≡ true
-unfolding blank frameCount topFrame widthAt slotAt raised kindCount sizeOf markAt nameAt entryOf tagOf countAt withoutRegions withCounts rolled moved pageCount ownerAt takenAt ownerIn ownerOf freed walk headersTo headersOn freeWords freeWordsOn outOf slotTargets recounted outgoing newlyCounted deleted sizeIn entryIn recount targetsIn newlyIn freeWordsOf ownersTo nameOf parentAt levelAt newestAt oldestAt isFree entries listedRegions listedKinds listedFrames listedHeld listedFree metOn begin slotsOf pointersOf leads homeOf slotsLeadingTo wordsLeadingTo outside uncountedInto storedCount countsExact slotsLead wordsLead pagesHeld filled placed newestOwn oldestOwn nameIn sound upward
+unfolding blank frameCount topFrame widthAt slotAt raised kindCount sizeOf markAt nameAt entryOf tagOf countAt withoutRegions withCounts rolled moved pageCount ownerAt takenAt ownerIn ownerOf freed walk headersTo headersOn freeWords freeWordsOn outOf slotTargets recounted outgoing newlyCounted deleted sizeIn entryIn recount targetsIn newlyIn freeWordsOf ownersTo nameOf parentAt levelAt newestAt oldestAt isFree entries listedRegions listedKinds listedFrames listedHeld listedFree metOn begin slotsOf pointersOf leads homeOf slotsLeadingTo wordsLeadingTo outside uncountedInto storedCount countsExact slotsLead wordsLead pagesHeld filled placed newestOwn oldestOwn nameIn sound climb
 exact = refl
 
 -- no word of the heap changed, and no page has more or fewer words taken

@@ -17,7 +17,7 @@ use Rattle.model.specs.Model.{Model, Region, noRegion, called, object, livesIn,
 use Rattle.model.specs.Valid.{Valid}
 use Rattle.model.specs.Laws.Slots.{Known, in-list}
 use Rattle.model.specs.Laws.Regions.{distinct-one}
-use Rattle.model.specs.Laws.Upward.{upward-same, parent-lives}
+use Rattle.model.specs.Laws.Climb.{climb-same, parent-lives}
 use Rattle.regions.specs.declared.Regions.{Regions}
 use Rattle.pages.specs.declared.Pages.{Pages}
 use Rattle.outcomes.specs.History.{History, isLive, parentOf, aboveOf, at, leads, homeOf}
@@ -81,7 +81,7 @@ module _ {L : Model} {sp : List ℕ} {h : History} (t : Tells L sp h) where
         ∙ sum-one (called r) (λ g. g .parent) noRegion (L .regions) one
 
     pub above-is : (r : ℕ) → livesIn L r ≡ true → aboveOf h r ≡ above (parentIn L) r
-    above-is r l = upward-same (parentIn L) (parentOf h) (λ r. livesIn L r ≡ true) (parent-lives L v) parent-is 16 r l
+    above-is r l = climb-same (parentIn L) (parentOf h) (λ r. livesIn L r ≡ true) (parent-lives L v) parent-is 16 r l
 
     module _ {ids : ℕ → List ℕ} {g : Regions} {p : Pages} {heap : List ℕ} (a : ObjectsAgree L sp ids g p heap) where
       alive-known : (q : ℕ) → Alive L q → Known L q

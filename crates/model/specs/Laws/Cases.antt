@@ -6,7 +6,7 @@ use mathlib.Core.List.{List, [], _∷_, map}
 use Prim.Native.Nat.{ℕ}
 use lib.Dec.{eqb}
 use Rattle.lists.specs.Lists.{every, equal}
-use Rattle.model.specs.Model.{Model, Call, declare, newRegion, push, allocate, copy, clear, setPointer, inFrames, fromObject, inWords, stored, outside, upward, allowed}
+use Rattle.model.specs.Model.{Model, Call, declare, newRegion, push, allocate, copy, clear, setPointer, inFrames, fromObject, inWords, stored, outside, climb, allowed}
 use Rattle.model.specs.Calls.{checks, refusal, accepted, fillSlot, writeWord, addRegion, addObject, grown, removeRegions, next, after, fresh}
 use Rattle.model.specs.Moves.{fromRegion, fromRegions}
 
@@ -34,10 +34,10 @@ left =
     ∷ []
 
 pub computed : every (λ p. every (λ L. equal (equal eqb) (reads L) (p .1)) (p .0)) left ≡ true
-unfolding next refusal checks accepted fillSlot writeWord addRegion addObject grown removeRegions outside stored inWords inFrames fromObject upward allowed
+unfolding next refusal checks accepted fillSlot writeWord addRegion addObject grown removeRegions outside stored inWords inFrames fromObject climb allowed
 computed = refl
 
 -- the words of both that lead into each region
 words-leave : map (fromRegions linked (2 ∷ 3 ∷ [])) (1 ∷ 2 ∷ 3 ∷ 4 ∷ []) ≡ 1 ∷ 1 ∷ 1 ∷ 1 ∷ []
-unfolding next refusal checks accepted fillSlot writeWord addRegion addObject grown upward allowed fromRegion fromRegions
+unfolding next refusal checks accepted fillSlot writeWord addRegion addObject grown climb allowed fromRegion fromRegions
 words-leave = refl

@@ -17,7 +17,7 @@ use Rattle.lists.specs.Laws.Kept.{all-among}
 use Rattle.model.specs.Model.{Model, Object, Region, live, parentOf, marks, livesIn, homeIn, parentIn, above, rule, delete}
 use Rattle.model.specs.Calls.{refusal, accepted, others, removeRegions}
 use Rattle.model.specs.Valid.{Valid, ValidObject, ValidParent, known}
-use Rattle.model.specs.Laws.Upward.{upward-all, upward-same}
+use Rattle.model.specs.Laws.Climb.{climb-all, climb-same}
 use Rattle.model.specs.Laws.Slots.{ValidIn}
 use Rattle.model.specs.Laws.Grows.{known-moved, fine-moved}
 use Rattle.model.specs.Laws.Regions.{live-others, region-others, level-others, not-removed, lived-before, distinct-keep}
@@ -65,8 +65,8 @@ module _ (L : Model) (v : Valid L) (rs : List ℕ) (m : Removable L rs) where
         let a = not-removed (L .regions) rs (o .home) l in
         let b = lived-before (L .regions) rs (o .home) l in
         all₂-both _ _ _ (λ k p f z. fine-moved (livesIn L) (live left) (parentIn L) (parentOf left) (homeIn L) (homeIn L) (o .home) k p
-        (upward-same (parentIn L) (parentOf left) Stays stays (λ r q. ap (λ x. x .parent) (region-others (L .regions) rs r q)) 16 (o .home) a)
-        (λ l₂ e. (refl, live-others (L .regions) rs (homeIn L p) (word-away (homeIn L) (above (parentIn L) (o .home)) rs (o .home) k p (m .notOne) a (upward-all (parentIn L) Stays stays 16 (o .home) a) z e) ∙ l₂)) f)
+        (climb-same (parentIn L) (parentOf left) Stays stays (λ r q. ap (λ x. x .parent) (region-others (L .regions) rs r q)) 16 (o .home) a)
+        (λ l₂ e. (refl, live-others (L .regions) rs (homeIn L p) (word-away (homeIn L) (above (parentIn L) (o .home)) rs (o .home) k p (m .notOne) a (climb-all (parentIn L) Stays stays 16 (o .home) a) z e) ∙ l₂)) f)
         (marks (L .kinds) (o .kind)) (o .words) (s .fineWords b) (w b a);
   }
 

@@ -18,7 +18,7 @@ use Rattle.model.specs.Model.{declare, newRegion, subregion, allocate}
 use Rattle.model.specs.Calls.{checks, refusal, accepted, addRegion, addObject, grown, size}
 use Rattle.model.specs.Valid.{Valid, ValidFrames, ValidObject, ValidParent, OwnOldest, known, fine, levelOf}
 use Rattle.model.specs.Laws.Passed.{passed}
-use Rattle.model.specs.Laws.Upward.{upward-same, parent-lives}
+use Rattle.model.specs.Laws.Climb.{climb-same, parent-lives}
 use Rattle.model.specs.Laws.Slots.{in-list, fill-valid}
 use Rattle.model.specs.Laws.Regions.{live-zero, live-all, level-is, live-more, live-less, region-more, level-more, distinct-more, live-map, distinct-map, find-map, level-map, home-append, home-new, home-out}
 
@@ -104,7 +104,7 @@ module _ {lives lives₂ : ℕ → Bool} {parent parent₂ home home₂ : ℕ �
     sized = s .sized;
     fineWords = λ l. let l₁ = m .back (o .home) (s .homeGiven) l in
         all₂-map (λ k p. fine-moved lives lives₂ parent parent₂ home home₂ (o .home) k p
-        (upward-same parent parent₂ (λ r. lives r ≡ true) (m .closed) (m .parents) 16 (o .home) l₁) (λ l₂ r. (m .homes p l₂, m .forth (home p) l₂)))
+        (climb-same parent parent₂ (λ r. lives r ≡ true) (m .closed) (m .parents) 16 (o .home) l₁) (λ l₂ r. (m .homes p l₂, m .forth (home p) l₂)))
         (marks ks (o .kind)) (o .words) (s .fineWords l₁);
   }
 

@@ -7,7 +7,7 @@ use Prim.Native.Nat.{ℕ}
 use lib.Dec.{eqb}
 use lib.ListN.{replicate}
 use Rattle.lists.specs.Lists.{bit, every, equal}
-use Rattle.model.specs.Model.{push, fetch, load, setPointer, put, view, upward}
+use Rattle.model.specs.Model.{push, fetch, load, setPointer, put, view, climb}
 use Rattle.frames.specs.Frames.{frameCount, topFrame, widthAt, slotAt, putSlot, pushed, uncounts, popped, uncountsIn}
 use Rattle.kinds.specs.Kinds.{kindCount, sizeOf, markAt, allData as onlyData, sizeIn}
 use Rattle.regions.specs.Regions.{nameAt, nameOf, entryOf, parentAt, oldestAt, countAt, moved, rolled, withCounts, recount, entryIn, nameIn, upIn, levelIn, aboveIn, allowsIn}
@@ -77,5 +77,5 @@ cases =
     ∷ []
 
 pub computed : every (λ p. eqb (p .0) (p .1)) cases ≡ true
-unfolding frameCount topFrame widthAt slotAt putSlot pushed uncounts popped kindCount sizeOf markAt nameAt nameOf entryOf parentAt oldestAt countAt moved rolled withCounts recount pageCount ownerAt ownerIn ownerOf pagesOf wrongLength kindOf wordCount markOf wordAt slot slotTargets targetsIn breaks badLength noFrame oneFrame lacks lacksBeneath noWord isData allData onlyData checks refusal fillSlot writeWord recounted countedIn popFrame pointed uncountsIn sizeIn nameIn entryIn pagesIn wrongLengthIn breaksIn upward upIn levelIn aboveIn allowsIn
+unfolding frameCount topFrame widthAt slotAt putSlot pushed uncounts popped kindCount sizeOf markAt nameAt nameOf entryOf parentAt oldestAt countAt moved rolled withCounts recount pageCount ownerAt ownerIn ownerOf pagesOf wrongLength kindOf wordCount markOf wordAt slot slotTargets targetsIn breaks badLength noFrame oneFrame lacks lacksBeneath noWord isData allData onlyData checks refusal fillSlot writeWord recounted countedIn popFrame pointed uncountsIn sizeIn nameIn entryIn pagesIn wrongLengthIn breaksIn climb upIn levelIn aboveIn allowsIn
 computed = refl

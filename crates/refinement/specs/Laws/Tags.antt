@@ -17,10 +17,10 @@ use Rattle.lists.specs.Laws.Sums.{sum-same, sum-map, sum-ones, sum-pick}
 use Rattle.lists.specs.Laws.Finds.{any-map, any-same, false-any, any-count, find-none, all-find}
 use Rattle.lists.specs.Laws.Kept.{all-each, among-self, all-among}
 use Rattle.lists.specs.Laws.UpTo.{any-one, one-passes, sum-below}
-use Rattle.model.specs.Model.{Model, noRegion, called, region, livesIn, parentIn, subregions, upward, above}
+use Rattle.model.specs.Model.{Model, noRegion, called, region, livesIn, parentIn, subregions, climb, above}
 use Rattle.model.specs.Valid.{Valid}
 use Rattle.model.specs.Laws.Regions.{distinct-once, found-itself}
-use Rattle.model.specs.Laws.Upward.{upward-map, parent-lives, level-deep, above-enough}
+use Rattle.model.specs.Laws.Climb.{climb-map, parent-lives, level-deep, above-enough}
 use Rattle.regions.specs.declared.Regions.{Regions}
 use Rattle.regions.specs.Laws.Entries.{name-none, name-of, entry-find, entry-found, unused-found}
 use Rattle.regions.specs.Regions.{nameAt, nameOf, entryOf, tagOf, isLive, liveCount, parentAt, subregionsOf, unused, entryIn, liveIn, nameIn, subregionsIn, levelAt, upIn, levelIn, aboveIn}
@@ -195,8 +195,8 @@ module _ {L : Model} {sp : List ℕ} {g : Regions} (a : RegionsAgree L sp g) whe
     unfolding aboveIn nameOf
     above-is r l =
         let n = min (levelIn (g .levels) (tagOf g r)) 16 in
-        sym (upward-map (upIn (g .parents)) Tag up-tag (nameOf g) (parentIn L) (name-none g) named step n (tagOf g r) (r, l, refl))
-        ∙ ap (upward (parentIn L) n) (tag-name r l)
+        sym (climb-map (upIn (g .parents)) Tag up-tag (nameOf g) (parentIn L) (name-none g) named step n (tagOf g r) (r, l, refl))
+        ∙ ap (climb (parentIn L) n) (tag-name r l)
         ∙ above-enough L v n r l (level-bound r l)
       where
         named : (t : ℕ) → Tag t → t ≢ 0 → nameOf g t ≢ 0

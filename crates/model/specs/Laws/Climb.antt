@@ -11,48 +11,48 @@ use borrow.Author.Tests.{eqb-true, eqb-false, ne-eqb}
 use Rattle.lists.specs.Lists.{All}
 use Rattle.lists.specs.Laws.Tests.{by-test, or-other}
 use Rattle.lists.specs.Laws.Finds.{all-found}
-use Rattle.model.specs.Model.{Model, noRegion, called, region, livesIn, parentIn, upward, above}
+use Rattle.model.specs.Model.{Model, noRegion, called, region, livesIn, parentIn, climb, above}
 use Rattle.model.specs.Valid.{Valid, ValidParent}
 use Rattle.model.specs.Laws.Regions.{live-zero, level-is}
 
-pub upward-end : (parent : ℕ → ℕ) (n r : ℕ) → parent r ≡ 0 → upward parent n r ≡ []
-unfolding upward
-upward-end parent zero r e = refl
-upward-end parent (suc n) r e = rw e
+pub climb-end : (parent : ℕ → ℕ) (n r : ℕ) → parent r ≡ 0 → climb parent n r ≡ []
+unfolding climb
+climb-end parent zero r e = refl
+climb-end parent (suc n) r e = rw e
 
 -- P holds of where the climb begins and, with each region, of the one above it
 module _ (parent : ℕ → ℕ) (P : ℕ → Type 0) (closed : (r : ℕ) → P r → parent r ≢ 0 → P (parent r)) where
-  pub upward-all : (n r : ℕ) → P r → All P (upward parent n r)
-  unfolding upward
-  upward-all zero r p = tt
-  upward-all (suc n) r p = by-test (eqb (parent r) 0) (λ e. rw e) (λ e. let q = closed r p (eqb-false (parent r) 0 e) in rw e (q, upward-all n (parent r) q))
+  pub climb-all : (n r : ℕ) → P r → All P (climb parent n r)
+  unfolding climb
+  climb-all zero r p = tt
+  climb-all (suc n) r p = by-test (eqb (parent r) 0) (λ e. rw e tt) (λ e. let q = closed r p (eqb-false (parent r) 0 e) in rw e (q, climb-all n (parent r) q))
 
   -- the level falls at each step: as many steps as the level are enough, and more change nothing
   module _ (level : ℕ → ℕ) (falls : (r : ℕ) → P r → parent r ≢ 0 → level (parent r) < level r) where
     top : (r : ℕ) → P r → level r ≤ 0 → parent r ≡ 0
     top r p h = by-test (eqb (parent r) 0) (λ e. eqb-true (parent r) 0 e) (λ e. absurd (omega (arith, falls r p (eqb-false (parent r) 0 e))))
 
-    pub upward-enough : (m n r : ℕ) → P r → level r ≤ m → level r ≤ n → upward parent m r ≡ upward parent n r
-    unfolding upward
-    upward-enough zero n r p h k = sym (upward-end parent n r (top r p h))
-    upward-enough (suc m) zero r p h k = upward-end parent (suc m) r (top r p k)
-    upward-enough (suc m) (suc n) r p h k = by-test (eqb (parent r) 0) (λ e. rw e) (λ e.
+    pub climb-enough : (m n r : ℕ) → P r → level r ≤ m → level r ≤ n → climb parent m r ≡ climb parent n r
+    unfolding climb
+    climb-enough zero n r p h k = sym (climb-end parent n r (top r p h))
+    climb-enough (suc m) zero r p h k = climb-end parent (suc m) r (top r p k)
+    climb-enough (suc m) (suc n) r p h k = by-test (eqb (parent r) 0) (λ e. rw e) (λ e.
         let l = falls r p (eqb-false (parent r) 0 e) in
-        rw e (ap (λ us. parent r ∷ us) (upward-enough m n (parent r) (closed r p (eqb-false (parent r) 0 e)) (omega (arith, l)) (omega (arith, l)))))
+        rw e (ap (λ us. parent r ∷ us) (climb-enough m n (parent r) (closed r p (eqb-false (parent r) 0 e)) (omega (arith, l)) (omega (arith, l)))))
 
   -- f takes each step of this climb to a step of the other
   module _ (f parent₂ : ℕ → ℕ) (none : f 0 ≡ 0) (some : (r : ℕ) → P r → r ≢ 0 → f r ≢ 0) (step : (r : ℕ) → P r → parent₂ (f r) ≡ f (parent r)) where
-    pub upward-map : (n r : ℕ) → P r → upward parent₂ n (f r) ≡ map f (upward parent n r)
-    unfolding upward
-    upward-map zero r p = refl
-    upward-map (suc n) r p = by-test (eqb (parent r) 0)
+    pub climb-map : (n r : ℕ) → P r → climb parent₂ n (f r) ≡ map f (climb parent n r)
+    unfolding climb
+    climb-map zero r p = refl
+    climb-map (suc n) r p = by-test (eqb (parent r) 0)
         (λ e. rw (e, step r p, eqb-true (parent r) 0 e, none))
         (λ e. let q = closed r p (eqb-false (parent r) 0 e) in
-        rw (e, step r p, ne-eqb (f (parent r)) 0 (some (parent r) q (eqb-false (parent r) 0 e))) (ap (λ us. f (parent r) ∷ us) (upward-map n (parent r) q)))
+        rw (e, step r p, ne-eqb (f (parent r)) 0 (some (parent r) q (eqb-false (parent r) 0 e))) (ap (λ us. f (parent r) ∷ us) (climb-map n (parent r) q)))
 
 -- two climbs by the same steps
-pub upward-same : (parent parent₂ : ℕ → ℕ) (P : ℕ → Type 0) → ((r : ℕ) → P r → parent r ≢ 0 → P (parent r)) → ((r : ℕ) → P r → parent₂ r ≡ parent r) → (n r : ℕ) → P r → upward parent₂ n r ≡ upward parent n r
-upward-same parent parent₂ P closed step n r p = upward-map parent P closed (λ r. r) parent₂ refl (λ r p h. h) step n r p ∙ map-id (upward parent n r)
+pub climb-same : (parent parent₂ : ℕ → ℕ) (P : ℕ → Type 0) → ((r : ℕ) → P r → parent r ≢ 0 → P (parent r)) → ((r : ℕ) → P r → parent₂ r ≡ parent r) → (n r : ℕ) → P r → climb parent₂ n r ≡ climb parent n r
+climb-same parent parent₂ P closed step n r p = climb-map parent P closed (λ r. r) parent₂ refl (λ r p h. h) step n r p ∙ map-id (climb parent n r)
 
 -- ---- of a valid model: a region above lives, one level less deep
 
@@ -70,6 +70,6 @@ module _ (L : Model) (v : Valid L) where
   level-deep r l = tree r l .deep
 
   -- the level bounds the climb, and 16 the level
-  pub above-enough : (n r : ℕ) → Lives r → (region (L .regions) r) .level ≤ n → upward (parentIn L) n r ≡ above (parentIn L) r
-  above-enough n r l h = upward-enough (parentIn L) Lives parent-lives (λ r. (region (L .regions) r) .level)
+  pub above-enough : (n r : ℕ) → Lives r → (region (L .regions) r) .level ≤ n → climb (parentIn L) n r ≡ above (parentIn L) r
+  above-enough n r l h = climb-enough (parentIn L) Lives parent-lives (λ r. (region (L .regions) r) .level)
       (λ r l h. let p = parent-lives r l h in omega (arith, tree r l .level, level-is (L .regions) (parentIn L r) (live-zero (L .regions) (v .names .named)) p)) n 16 r l h (level-deep r l)
