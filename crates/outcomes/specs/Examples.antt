@@ -273,7 +273,7 @@ examples =
     -- two levels up, to region 3: region 5 is below 7, 7 below 3, and 3 below 1
     ∷ example (treeTo3 (0 ∷ 1 ∷ 4 ∷ 2 ∷ []) (1 ∷ 2 ∷ 4 ∷ 3 ∷ [])) []
     -- from level 16 to level 1: 16 regions, each below the one before, and page 1 held by the last
-    ∷ example (small but setGiven 17 but setNames (set chain 16 0) but setParents above but setLevels chain but setCounts (set (2 ∷ replicate 63 0) 15 2) but setNewest (set (1 ∷ replicate 63 0) 15 2) but setOldest (set (1 ∷ replicate 63 0) 15 65) but setOwners (set ow 1 16)) []
+    ∷ example (small but setGiven 16 but setNames (set chain 16 0) but setParents above but setLevels chain but setCounts (set (2 ∷ replicate 63 0) 15 2) but setNewest (set (1 ∷ replicate 63 0) 15 2) but setOldest (set (1 ∷ replicate 63 0) 15 65) but setOwners (set ow 1 16)) []
     -- entries not in use may hold anything: other slots, marks, region entries, owners and taken words past the pages made, words past those taken
     ∷ example (small but setSlots (set (set sl 2 1) 16 5) but setMarks (set mk 2 9) but setParents (set pa 1 0) but setLevels (set lv 1 99) but setCounts (set ct 1 5) but setOwners (set ow 2 1) but setTaken (set tk 5 3) but setHeap (set (set hp 6 1) 127 65)) []
     -- a region without newest page or oldest object entered
