@@ -7,5 +7,6 @@ pub mod Demand1
 pub mod Demand2
 pub mod Opening
 pub mod Demand3
+pub mod Later
 pub mod Table
 pub mod Cases

@@ -1,3 +1,4 @@
 pub mod Told
 pub mod Demands
+pub mod Later
 pub mod Laws

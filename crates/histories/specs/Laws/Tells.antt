@@ -8,7 +8,7 @@ use native.Mathlib.Omega.{arith}
 use lib.Dec.{eqb, ltb}
 use lib.ListN.{length, length-map}
 use borrow.Author.Tests.{eq-eqb, ne-eqb, not-false}
-use Rattle.lists.specs.Lists.{bit, pick, every, sumOf, countOf, from}
+use Rattle.lists.specs.Lists.{bit, pick, every, findOr, sumOf, countOf, from}
 use Rattle.lists.specs.Laws.Tests.{by-test, bit-zero, or-right}
 use Rattle.lists.specs.Laws.All.{all-map}
 use Rattle.lists.specs.Laws.Sums.{sum-zero, sum-nothing}
@@ -115,3 +115,6 @@ module _ {L : Model} {sp : List ℕ} {h : History} (t : Tells L sp h) where
         where
           none : history.Object
           none = record { place = 0; kind = 0; home = 0 }
+
+      pub kind-is : (q : ℕ) → Alive L q → (findOr (at (spot sp q)) (record { place = 0; kind = 0; home = 0 }) (h .objects)) .kind ≡ (object (L .objects) q) .kind
+      kind-is q l = sym (sum-one (at (spot sp q)) (λ o. o .kind) (record { place = 0; kind = 0; home = 0 }) (h .objects) (one q l)) ∙ only q l (λ o. o .kind)

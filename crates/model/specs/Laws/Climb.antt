@@ -29,13 +29,13 @@ module _ (parent : ℕ → ℕ) (P : ℕ → Type 0) (closed : (r : ℕ) → P r
 
   -- the level falls at each step: as many steps as the level are enough, and more change nothing
   module _ (level : ℕ → ℕ) (falls : (r : ℕ) → P r → parent r ≢ 0 → level (parent r) < level r) where
-    top : (r : ℕ) → P r → level r ≤ 0 → parent r ≡ 0
-    top r p h = by-test (eqb (parent r) 0) (λ e. eqb-true (parent r) 0 e) (λ e. absurd (omega (arith, falls r p (eqb-false (parent r) 0 e))))
+    pub climb-top : (r : ℕ) → P r → level r ≤ 0 → parent r ≡ 0
+    climb-top r p h = by-test (eqb (parent r) 0) (λ e. eqb-true (parent r) 0 e) (λ e. absurd (omega (arith, falls r p (eqb-false (parent r) 0 e))))
 
     pub climb-enough : (m n r : ℕ) → P r → level r ≤ m → level r ≤ n → climb parent m r ≡ climb parent n r
     unfolding climb
-    climb-enough zero n r p h k = sym (climb-end parent n r (top r p h))
-    climb-enough (suc m) zero r p h k = climb-end parent (suc m) r (top r p k)
+    climb-enough zero n r p h k = sym (climb-end parent n r (climb-top r p h))
+    climb-enough (suc m) zero r p h k = climb-end parent (suc m) r (climb-top r p k)
     climb-enough (suc m) (suc n) r p h k = by-test (eqb (parent r) 0) (λ e. rw e) (λ e.
         let l = falls r p (eqb-false (parent r) 0 e) in
         rw e (ap (λ us. parent r ∷ us) (climb-enough m n (parent r) (closed r p (eqb-false (parent r) 0 e)) (omega (arith, l)) (omega (arith, l)))))
@@ -69,7 +69,9 @@ module _ (L : Model) (v : Valid L) where
   pub level-deep : (r : ℕ) → Lives r → (region (L .regions) r) .level ≤ 16
   level-deep r l = tree r l .deep
 
+  pub level-falls : (r : ℕ) → Lives r → parentIn L r ≢ 0 → (region (L .regions) (parentIn L r)) .level < (region (L .regions) r) .level
+  level-falls r l h = omega (arith, tree r l .level, level-is (L .regions) (parentIn L r) (live-zero (L .regions) (v .names .named)) (parent-lives r l h))
+
   -- the level bounds the climb, and 16 the level
   pub above-enough : (n r : ℕ) → Lives r → (region (L .regions) r) .level ≤ n → climb (parentIn L) n r ≡ above (parentIn L) r
-  above-enough n r l h = climb-enough (parentIn L) Lives parent-lives (λ r. (region (L .regions) r) .level)
-      (λ r l h. let p = parent-lives r l h in omega (arith, tree r l .level, level-is (L .regions) (parentIn L r) (live-zero (L .regions) (v .names .named)) p)) n 16 r l h (level-deep r l)
+  above-enough n r l h = climb-enough (parentIn L) Lives parent-lives (λ r. (region (L .regions) r) .level) level-falls n 16 r l h (level-deep r l)
