@@ -13,7 +13,7 @@ use Rattle.model.specs.Calls.{reason, _yields_}
 use Rattle.frames.specs.Frames.{slotAt, topFrame}
 use Rattle.kinds.specs.Kinds.{markAt, markIn}
 use Rattle.regions.specs.declared.Regions.{Regions}
-use Rattle.regions.specs.Regions.{withCounts, recount, nameOf, parentAt}
+use Rattle.regions.specs.Regions.{withCounts, recount}
 use Rattle.regions.specs.Laws.Steps.{steps, entering, leaving}
 use Rattle.regions.specs.Laws.Counts.{Counts}
 use Rattle.regions.specs.Laws.Recount.{recount-come-none, recount-gone-none, enter-leave-recount}

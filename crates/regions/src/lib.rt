@@ -142,11 +142,12 @@ pub fn allows<'a>(
         return true;
     }
     let to = name_of(names, t);
+    let own = name_of(names, h);
     if m == 2 {
-        return to == name_of(names, h);
+        return to == own;
     }
     if m == 3 {
-        if to == name_of(names, h) {
+        if to == own {
             return true;
         }
         return is_above(names, parents, level_from(levels, h), h, to);

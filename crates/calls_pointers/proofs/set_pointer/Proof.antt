@@ -13,7 +13,7 @@ returns c = by-refusal _ _ _ _ _ (set-parts _ _ _ _ ∙ else-first _ _ _ (c .bef
 returns-2 : tie.Need-returns-2
 returns-2 c =
     let d = c .before .before in
-    let o = d .before .before .before .before .before .before .before .before .before .before .before .before in
+    let o = d .before .before .before .before .before .before .before .before .before .before .before .before .before .before in
     let x = o .before .before in
     let v = x .before .before .before .before in
     let t = v .before .before .before .before in
@@ -30,7 +30,7 @@ returns-3 c =
     let m = z .before .before in
     let i = m .before .before .before .before .before .before in
     let d = i .before in
-    let o = d .before .before .before .before .before .before .before .before .before .before .before .before in
+    let o = d .before .before .before .before .before .before .before .before .before .before .before .before .before .before in
     let x = o .before .before in
     let v = x .before .before .before .before in
     let t = v .before .before .before .before in

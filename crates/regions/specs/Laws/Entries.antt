@@ -13,7 +13,7 @@ use Rattle.lists.specs.Lists.{bit, pick, anyOf, findOr, countOf, upTo}
 use Rattle.lists.specs.Laws.Finds.{any-count, all-find}
 use Rattle.lists.specs.Laws.UpTo.{length-upTo, find-found, all-upTo}
 use Rattle.regions.specs.declared.Regions.{Regions}
-use Rattle.regions.specs.Regions.{nameAt, nameOf, entryOf, liveCount, unused, entryIn, liveIn, nameIn, unusedIn}
+use Rattle.regions.specs.Regions.{nameAt, nameOf, entryOf, liveCount, unused, entryIn, liveIn, nameIn, unusedIn, upIn, levelIn}
 
 count-not : (f : ℕ → Bool) (l : List ℕ) → countOf (λ i. not (f i)) l + countOf f l ≡ length l
 count-not f [] = refl
@@ -28,10 +28,22 @@ pub name-none : (r : Regions) → nameOf r 0 ≡ 0
 unfolding nameOf nameIn
 name-none r = refl
 
+at-entry : (l : List ℕ) (t : ℕ) → t ≢ 0 → getD (0 ∷ l) t 0 ≡ getD l (t - 1) 0
+at-entry l zero h = absurd (h refl)
+at-entry l (suc i) h = let e : suc i - 1 ≡ i = omega arith in rw e
+
 pub name-in : (names : List ℕ) (t : ℕ) → t ≢ 0 → nameIn names t ≡ getD names (t - 1) 0
 unfolding nameIn
-name-in names zero h = absurd (h refl)
-name-in names (suc i) h = let e : suc i - 1 ≡ i = omega arith in rw e
+name-in names t h = at-entry names t h
+
+-- so are the tag of the region above, and the level
+pub up-in : (parents : List ℕ) (t : ℕ) → t ≢ 0 → upIn parents t ≡ getD parents (t - 1) 0
+unfolding upIn
+up-in parents t h = at-entry parents t h
+
+pub level-in : (levels : List ℕ) (t : ℕ) → t ≢ 0 → levelIn levels t ≡ getD levels (t - 1) 0
+unfolding levelIn
+level-in levels t h = at-entry levels t h
 
 pub name-some : (r : Regions) (t : ℕ) → t ≢ 0 → nameOf r t ≡ nameAt r (t - 1)
 unfolding nameOf nameAt
