@@ -16,18 +16,18 @@ use Rattle.audit_words.proofs.objects_hold.Statement.{statement}
 use Rattle.audit_words.proofs.objects_hold.Tie as tie
 
 -- the objects left at place `at` hold
-abbrev rest : List ℕ → List ℕ → List ℕ → ℕ → List ℕ → List ℕ → List ℕ → ℕ → ℕ → ℕ → ℕ → Bool
-rest heads names owners declared sizes marks heap own above end at =
-    every (objectHolds (headAt heads) names owners declared sizes marks heap own above) (headersLeft (kindsWith declared sizes marks) heap at end)
+abbrev rest : List ℕ → List ℕ → List ℕ → List ℕ → List ℕ → ℕ → List ℕ → List ℕ → List ℕ → ℕ → ℕ → ℕ → Bool
+rest heads names parents levels owners declared sizes marks heap own end at =
+    every (objectHolds (headAt heads) names parents levels owners declared sizes marks heap own) (headersLeft (kindsWith declared sizes marks) heap at end)
 
 -- the objects left hold if all do
 abbrev Inv-loop : tie.InvT-loop
-Inv-loop declared sizes marks heap heads names owners own above j n at₀ end at =
-    let holds : ℕ → Bool = rest heads names owners declared sizes marks heap own above end in
+Inv-loop declared sizes marks heap heads names parents levels owners own j n at₀ end at =
+    let holds : ℕ → Bool = rest heads names parents levels owners declared sizes marks heap own end in
     (at ≤ end) × (holds at ≡ holds at₀)
 
 abbrev μ-loop : tie.MeasureT-loop
-μ-loop declared sizes marks heap heads names owners own above j n at₀ end at = end - at
+μ-loop declared sizes marks heap heads names parents levels owners own j n at₀ end at = end - at
 
 few : (c : tie.Start Inv-loop μ-loop) → c .args .n ≤ 64
 few c = search needs
@@ -37,20 +37,20 @@ next :
     (c : tie.After-words-hold Inv-loop μ-loop) →
     let z = c .before .before in
     let l = z .before .before .before in
-    let a = l .before .before .before .before .before .before .before .args in
+    let a = l .before .before .before .before .before .before .before .before .before .args in
     let s = z .fitting .result in
     let e = 64 * a .j + a .n in
-    let holds : ℕ → Bool = rest (a .heads .now) (a .names .now) (a .owners .now) (a .declared) (a .sizes .now) (a .marks .now) (a .heap .now) (a .own) (a .above) e in
+    let holds : ℕ → Bool = rest (a .heads .now) (a .names .now) (a .parents .now) (a .levels .now) (a .owners .now) (a .declared) (a .sizes .now) (a .marks .now) (a .heap .now) (a .own) e in
     (l .loop .at + 1 + s ≤ e) × (holds (l .loop .at) ≡ (c .words-hold .result && holds (l .loop .at + 1 + s)))
 unfolding sizeOf
 next c =
     let z = c .before .before in
     let l = z .before .before .before in
-    let a = l .before .before .before .before .before .before .before .args in
+    let a = l .before .before .before .before .before .before .before .before .before .args in
     let k = kindsWith (a .declared) (a .sizes .now) (a .marks .now) in
     let m = z .before .part-at .ensures in
     let n = headers-on k (a .heap .now) (l .loop .at) (64 * a .j + a .n) _ (rw m at (z .fitting .ensures)) (c .before .if1 .left) in
-    let o = object-words (headAt (a .heads .now)) (a .names .now) (a .owners .now) (a .declared) (a .sizes .now) (a .marks .now) (a .heap .now) (a .own) (a .above) (l .loop .at) _ (n .1) in
+    let o = object-words (headAt (a .heads .now)) (a .names .now) (a .parents .now) (a .levels .now) (a .owners .now) (a .declared) (a .sizes .now) (a .marks .now) (a .heap .now) (a .own) (l .loop .at) _ (n .1) in
     (n .0, rw (n .2, o, rw m at (c .words-hold .ensures)))
 
 -- what the objects left come to, all come to
@@ -62,7 +62,7 @@ returns : tie.Need-returns Inv-loop μ-loop
 unfolding objectsHold
 returns c =
     let l = c .before .before .before .before in
-    let s = l .before .before .before .before .before .before .before in
+    let s = l .before .before .before .before .before .before .before .before .before in
     let a = s .args in
     let k = kindsWith (a .declared) (a .sizes .now) (a .marks .now) in
     let z = rw (c .before .before .part-at .ensures) at (c .before .fitting .ensures) in
@@ -72,7 +72,7 @@ returns-2 : tie.Need-returns-2 Inv-loop μ-loop
 unfolding objectsHold
 returns-2 c =
     let l = c .before .before .before .before .before .before in
-    let s = l .before .before .before .before .before .before .before in
+    let s = l .before .before .before .before .before .before .before .before .before in
     let a = s .args in
     all-hold _ (a .declared) (a .sizes .now) (a .marks .now) (a .heap .now) (a .j) (a .n) _ (few s)
     (sym (rw (not-true (c .before .words-hold .result) (c .if2 .taken)) at (next (c .before) .1)) ∙ l .loop .inv .1)
@@ -86,7 +86,7 @@ returns-3 : tie.Need-returns-3 Inv-loop μ-loop
 unfolding objectsHold
 returns-3 c =
     let l = c .before in
-    let s = l .before .before .before .before .before .before .before in
+    let s = l .before .before .before .before .before .before .before .before .before in
     let a = s .args in
     let k = kindsWith (a .declared) (a .sizes .now) (a .marks .now) in
     all-hold _ (a .declared) (a .sizes .now) (a .marks .now) (a .heap .now) (a .j) (a .n) _ (few s) (rw (headers-end k (a .heap .now) (l .loop .at) (64 * a .j + a .n) (omega arith)) at (l .loop .inv .1))

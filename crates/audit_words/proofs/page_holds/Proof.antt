@@ -11,12 +11,9 @@ returns c = rw (← c .before .owner-at .ensures) (simp (eq-eqb _ _ (c .if1 .tak
 returns-2 : tie.Need-returns-2
 unfolding pageHolds
 returns-2 c =
-    let b = c .before .before in
-    let n = b .before .before in
+    let n = c .before in
     let t = n .before in
-    rw (← t .before .owner-at .ensures, ← n .name-of .ensures, ← b .before .parent-at .ensures, ← b .name-of2 .ensures, ← c .before .taken-at .ensures, ← c .objects-hold .ensures) (simp (ne-eqb _ _ (t .if1 .left)))
+    rw (← t .before .owner-at .ensures, ← n .taken-at .ensures, ← c .objects-hold .ensures) (simp (ne-eqb _ _ (t .if1 .left)))
 
 pub page-holds-spec : {M : Type 1} → statement M
-page-holds-spec =
-    tie.close
-    (tie.spec (λ c κs. search needs) returns (λ c κs. search needs) (λ c. search needs) (λ c κs. search needs) (λ c κs. search needs) (λ c κs. search needs) (λ c κs. search needs) returns-2)
+page-holds-spec = tie.close (tie.spec (λ c κs. search needs) returns (λ c κs. search needs) (λ c κs. search needs) returns-2)

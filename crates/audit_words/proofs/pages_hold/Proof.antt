@@ -12,17 +12,17 @@ use Rattle.audit_words.proofs.pages_hold.Tie as tie
 
 -- the objects of the pages passed hold
 abbrev Inv-loop : tie.InvT-loop
-Inv-loop declared sizes marks heap heads names parents made owners taken n j₀ j =
-    (n ≡ pageCountIn made) × Passed (pageHolds (headAt heads) names owners declared sizes marks heap parents taken) (pageCountIn made) j
+Inv-loop declared sizes marks heap heads names parents levels made owners taken n j₀ j =
+    (n ≡ pageCountIn made) × Passed (pageHolds (headAt heads) names parents levels owners declared sizes marks heap taken) (pageCountIn made) j
 
 abbrev μ-loop : tie.MeasureT-loop
-μ-loop declared sizes marks heap heads names parents made owners taken n j₀ j = n - j
+μ-loop declared sizes marks heap heads names parents levels made owners taken n j₀ j = n - j
 
 returns : tie.Need-returns Inv-loop μ-loop
 unfolding pagesHold
 returns c =
     let l = c .before .before .before in
-    let a = l .before .before .before .before .before .before .before .before .before .before .args in
+    let a = l .before .before .before .before .before .before .before .before .before .before .before .args in
     passed-not _ (pageCountIn (a .made)) (l .loop .j) (omega arith) (rw (← c .before .page-holds .ensures) (not-true (c .before .page-holds .result) (c .if1 .taken)))
 
 loop-again : tie.Need-loop-again Inv-loop μ-loop
@@ -34,7 +34,7 @@ returns-2 : tie.Need-returns-2 Inv-loop μ-loop
 unfolding pagesHold
 returns-2 c =
     let l = c .before in
-    let a = l .before .before .before .before .before .before .before .before .before .before .args in
+    let a = l .before .before .before .before .before .before .before .before .before .before .before .args in
     passed-all _ (pageCountIn (a .made)) (l .loop .j) (l .loop .inv .1) (omega arith)
 
 pub pages-hold-spec : {M : Type 1} → statement M

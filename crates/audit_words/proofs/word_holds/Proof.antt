@@ -7,8 +7,7 @@ use lib.Dec.{eqb}
 use native.Mathlib.Omega.{arith}
 use borrow.Author.Needs.{needs}
 use borrow.Author.Tests.{eq-eqb, ne-eqb, not-true, not-false}
-use Rattle.model.specs.Model.{rule}
-use Rattle.regions.specs.Regions.{nameIn}
+use Rattle.regions.specs.Regions.{allowsIn}
 use Rattle.pages.specs.Pages.{ownerIn}
 use Rattle.audit_heap.specs.Heap.{headAt}
 use Rattle.audit_words.specs.Words.{wordHolds}
@@ -16,21 +15,21 @@ use Rattle.audit_words.proofs.word_holds.Statement.{statement}
 use Rattle.audit_words.proofs.word_holds.Tie as tie
 
 -- a pointer that is not null and leads to an object is left to the mark's rule
-by-rule : (stands : ℕ → Bool) (names owners : List ℕ) (own above m x : ℕ) → eqb m 0 ≡ false → eqb x 0 ≡ false → stands (x - 1) ≡ true
-    → rule m (nameIn names (ownerIn owners x)) own above ≡ wordHolds stands names owners own above m x
+by-rule : (stands : ℕ → Bool) (names parents levels owners : List ℕ) (own m x : ℕ) → eqb m 0 ≡ false → eqb x 0 ≡ false → stands (x - 1) ≡ true
+    → allowsIn names parents levels m own (ownerIn owners x) ≡ wordHolds stands names parents levels owners own m x
 unfolding wordHolds
-by-rule stands names owners own above m x a b c = rw (a, b, c)
+by-rule stands names parents levels owners own m x a b c = rw (a, b, c)
 
 -- the word is no data; what it holds; the test of the place that it leads to
-pointer : (c : tie.Else1) → c .before .before .before .before .before .args .m ≢ 0
+pointer : (c : tie.Else1) → c .before .before .before .before .before .before .before .args .m ≢ 0
 pointer c e = omega arith
 
-stands : (c : tie.After-stands-at) → let x = c .before .before in let a = x .before .before .before .before .before .before .args in headAt (a .heads .now) (x .word-at .result - 1) ≡ c .stands-at .result
+stands : (c : tie.After-stands-at) → let x = c .before .before in let a = x .before .before .before .before .before .before .before .before .args in headAt (a .heads .now) (x .word-at .result - 1) ≡ c .stands-at .result
 stands c = sym (c .stands-at .ensures)
 
 returns : tie.Need-returns
 unfolding wordHolds
-returns c = simp (eq-eqb (c .before .before .before .before .before .args .m) 0 (omega arith))
+returns c = simp (eq-eqb (c .before .before .before .before .before .before .before .args .m) 0 (omega arith))
 
 returns-2 : tie.Need-returns-2
 unfolding wordHolds
@@ -45,16 +44,16 @@ returns-3 c =
 
 returns-4 : tie.Need-returns-4
 returns-4 c =
-    let o = c .before .before in
+    let o = c .before in
     let t = o .before in
     let i = t .before .before in
     let x = i .before in
-    let a = x .before .before .before .before .before .before .args in
+    let a = x .before .before .before .before .before .before .before .before .args in
     let v = x .word-at .result in
     c .allows .ensures
-    ∙ ap (λ n. rule (a .m) n (a .own) (a .above)) (c .before .name-of .ensures ∙ ap (nameIn (a .names .now)) (o .owner-of .ensures))
-    ∙ by-rule (headAt (a .heads .now)) (a .names .now) (a .owners .now) (a .own) (a .above) (a .m) v (ne-eqb _ _ (pointer (x .before))) (ne-eqb _ _ (i .if2 .left)) (stands (t .before) ∙ not-false (t .before .stands-at .result) (t .if3 .left))
-    ∙ ap (wordHolds (headAt (a .heads .now)) (a .names .now) (a .owners .now) (a .own) (a .above) (a .m)) (x .word-at .ensures)
+    ∙ ap (allowsIn (a .names .now) (a .parents .now) (a .levels .now) (a .m) (a .own)) (o .owner-of .ensures)
+    ∙ by-rule (headAt (a .heads .now)) (a .names .now) (a .parents .now) (a .levels .now) (a .owners .now) (a .own) (a .m) v (ne-eqb _ _ (pointer (x .before))) (ne-eqb _ _ (i .if2 .left)) (stands (t .before) ∙ not-false (t .before .stands-at .result) (t .if3 .left))
+    ∙ ap (wordHolds (headAt (a .heads .now)) (a .names .now) (a .parents .now) (a .levels .now) (a .owners .now) (a .own) (a .m)) (x .word-at .ensures)
 
 pub word-holds-spec : {M : Type 1} → statement M
-word-holds-spec = tie.close (tie.spec returns (λ c κs. search needs) returns-2 (λ c. search needs) (λ c κs. search needs) returns-3 (λ c κs. search needs) (λ c κs. search needs) (λ c κs. search needs) returns-4)
+word-holds-spec = tie.close (tie.spec returns (λ c κs. search needs) returns-2 (λ c. search needs) (λ c κs. search needs) returns-3 (λ c κs. search needs) (λ c κs. search needs) returns-4)

@@ -12,10 +12,10 @@ use Rattle.audit_words.proofs.words_hold.Tie as tie
 
 -- the words passed hold
 abbrev Inv-loop : tie.InvT-loop
-Inv-loop marks object n heads names owners own above w₀ w = Passed (λ w. wordHolds (headAt heads) names owners own above (markIn marks (headerIn object) w) (wordIn object w)) n w
+Inv-loop marks object n heads names parents levels owners own w₀ w = Passed (λ w. wordHolds (headAt heads) names parents levels owners own (markIn marks (headerIn object) w) (wordIn object w)) n w
 
 abbrev μ-loop : tie.MeasureT-loop
-μ-loop marks object n heads names owners own above w₀ w = n - w
+μ-loop marks object n heads names parents levels owners own w₀ w = n - w
 
 -- none is passed at first
 loop-holds : tie.Need-loop-holds Inv-loop μ-loop
@@ -26,7 +26,7 @@ unfolding wordsHold
 returns c =
     let m = c .before .before in
     let l = m .before .before in
-    passed-not _ (l .before .before .before .before .before .before .args .n) (l .loop .w) (omega arith)
+    passed-not _ (l .before .before .before .before .before .before .before .before .args .n) (l .loop .w) (omega arith)
     (rw (← m .mark-of .ensures, ← c .before .word-holds .ensures) (not-true (c .before .word-holds .result) (c .if1 .taken)))
 
 loop-again : tie.Need-loop-again Inv-loop μ-loop
@@ -38,7 +38,7 @@ loop-again c =
 
 returns-2 : tie.Need-returns-2 Inv-loop μ-loop
 unfolding wordsHold
-returns-2 c = let l = c .before in passed-all _ (l .before .before .before .before .before .before .args .n) (l .loop .w) (l .loop .inv) (omega arith)
+returns-2 c = let l = c .before in passed-all _ (l .before .before .before .before .before .before .before .before .args .n) (l .loop .w) (l .loop .inv) (omega arith)
 
 pub words-hold-spec : {M : Type 1} → statement M
 words-hold-spec =

@@ -13,10 +13,10 @@ use Rattle.kinds.specs.Laws.Marks.{size-most}
 use Rattle.objects.specs.Laws.Words.{part-header, part-word}
 use Rattle.audit_words.specs.Words.{wordsHold, objectHolds}
 
-pub object-words : (stands : ℕ → Bool) (names owners : List ℕ) (declared : ℕ) (sizes marks heap : List ℕ) (own above q s : ℕ) → s ≡ sizeIn declared sizes (getD heap q 0)
-    → objectHolds stands names owners declared sizes marks heap own above q ≡ wordsHold stands names owners marks (partAt heap q) s own above
+pub object-words : (stands : ℕ → Bool) (names parents levels owners : List ℕ) (declared : ℕ) (sizes marks heap : List ℕ) (own q s : ℕ) → s ≡ sizeIn declared sizes (getD heap q 0)
+    → objectHolds stands names parents levels owners declared sizes marks heap own q ≡ wordsHold stands names parents levels owners marks (partAt heap q) s own
 unfolding objectHolds wordsHold
-object-words stands names owners declared sizes marks heap own above q s e =
+object-words stands names parents levels owners declared sizes marks heap own q s e =
     let k = getD heap q 0 in
     rw (e, part-header heap q)
     (every-below _ _ (sizeIn declared sizes k) (λ w h. rw (part-word heap q w (omega (arith, size-most declared sizes k)))))

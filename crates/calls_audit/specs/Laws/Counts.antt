@@ -125,28 +125,26 @@ module _ (S : Store) where
           known-same S h (slotAt (frames S) f s)
           ∙ every-each (λ s. known (stands S) (slotAt (frames S) f s)) (widthAt (frames S) f) (every-each (frameLeads (stands S) ((frames S) .widths) ((frames S) .slots)) (frameCount (frames S)) slots f l) s m
 
-      word-known : (own above m x : ℕ) → m ≡ 1 → wordPasses S own above m x ≡ true → Known S h x
+      word-known : (own m x : ℕ) → m ≡ 1 → wordPasses S own m x ≡ true → Known S h x
       unfolding wordHolds known
-      word-known own above m x e t = known-same S h x ∙ or-known (eqb x 0) _ _ (or-other (eqb m 0) _ t (ne-eqb m 0 (λ z. omega arith)))
+      word-known own m x e t = known-same S h x ∙ or-known (eqb x 0) _ _ (or-other (eqb m 0) _ t (ne-eqb m 0 (λ z. omega arith)))
 
-      object-known : (own above q : ℕ) → objectPasses S own above q ≡ true → All (Known S h) (freeWords (kinds S) (S .heap) q)
+      object-known : (own q : ℕ) → objectPasses S own q ≡ true → All (Known S h) (freeWords (kinds S) (S .heap) q)
       unfolding objectHolds freeWords sizeOf markAt
-      object-known own above q e =
+      object-known own q e =
           let k = getD (S .heap) q 0 in
           let n = sizeOf (kinds S) k in
           let free : ℕ → Bool = λ w. eqb (markAt (kinds S) k w) 1 in
           all-change (λ w. Known S h (valueAt S q w)) (Known S h) (valueAt S q) (λ w a. a) (keep free (upTo n))
-          (each-kept (λ w. Known S h (valueAt S q w)) free n (λ w l m. word-known own above (markAt (kinds S) k w) (valueAt S q w) (eqb-true (markAt (kinds S) k w) 1 m) (every-each _ n e w l)))
+          (each-kept (λ w. Known S h (valueAt S q w)) free n (λ w l m. word-known own (markAt (kinds S) k w) (valueAt S q w) (eqb-true (markAt (kinds S) k w) 1 m) (every-each _ n e w l)))
 
       page-known : (j : ℕ) → j < pageCount (pages S) → ownerAt (pages S) j ≢ 0 → All (λ q. All (Known S h) (freeWords (kinds S) (S .heap) q)) (headersOn (kinds S) (S .heap) (pages S) j)
-      unfolding pagesHold pageHolds objectsHold headersOn pageCount ownerAt nameOf parentAt takenAt
+      unfolding pagesHold pageHolds objectsHold headersOn pageCount ownerAt takenAt
       page-known j l n =
           let t = ownerAt (pages S) j in
-          let own = nameOf (regions S) t in
-          let above = nameOf (regions S) (parentAt (regions S) (t - 1)) in
           let hs = headersOn (kinds S) (S .heap) (pages S) j in
-          all-map (λ q e. object-known own above q e) hs
-          (every-true (objectPasses S own above) hs
+          all-map (object-known t) hs
+          (every-true (objectPasses S t) hs
           (or-other (eqb t 0) _ (every-each (pageWordsPass S) (pageCount (pages S)) holds j l) (ne-eqb t 0 n)))
 
       count-same : (i : ℕ) → i < 64 → nameAt (regions S) i ≢ 0

@@ -20,6 +20,7 @@ use Rattle.audit_state.specs.Fits.{stateFits}
 use Rattle.audit_slots.specs.Leads.{entryOwns, entriesOwn}
 use Rattle.calls_audit.specs.Passes.{heapFits, passesIn, passes}
 use Rattle.calls_audit.specs.Laws.State.{folded-true, each-entry, entry-each, widths-same, state-passes, numbers, sizes, marks, widths, region, levels, distinct, namesGiven, permanent, parents}
+use Rattle.calls_audit.specs.Laws.Tree.{tree}
 use Rattle.calls_audit.specs.Laws.Heap.{pagesPass, newestPasses, oldestPasses, entriesPass, slotsPass, wordsPass, pages-pass, owned, held, filling, newest-same, oldest-same, slots-same, words-same}
 use Rattle.calls_audit.specs.Laws.Counts.{countsPass, counts-same}
 
@@ -59,7 +60,7 @@ module _ (S : Store) (names : length ((regions S) .names) ≡ 64) (cs : List ℕ
       let b = pages-pass S names h in
       let o = ordered a b in
       let f = sym (slots-same S o) ∙ h .slots in
-      let w = sym (words-same S o) ∙ h .words in
+      let w = sym (words-same S o (tree S names a)) ∙ h .words in
       all-tests ∙ rw (a, b, same-own o h, f, w) (sym (counts-same S (h .standing) (h .counted) (sym (widths-same S) ∙ h .widths) o cs fits kept f w) ∙ h .counts)
 
   passes-sound : passes cs (S .state) (S .heap) ≡ true → Sound S
@@ -75,7 +76,7 @@ module _ (S : Store) (names : length ((regions S) .names) ≡ 64) (cs : List ℕ
       record {
         counts = counts-same S (n .standing) (n .counted) (sym (widths-same S) ∙ widths S a) o cs fits kept f w ∙ all .1 .1 .0;
         slots = slots-same S o ∙ f;
-        words = words-same S o ∙ w;
+        words = words-same S o (tree S names a) ∙ w;
         held = held S names b;
         made = n .made;
         declared = n .declared;

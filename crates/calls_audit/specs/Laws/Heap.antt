@@ -1,4 +1,5 @@
--- The tests of pages, newest pages, oldest objects, slots and pointer words are Sound's clauses, where names are distinct and pages are owned by regions that live.
+-- The tests of pages, newest pages, oldest objects, slots and pointer words are Sound's clauses, where names are distinct and pages are owned by regions that live;
+-- that of words where the regions also form a tree.
 -- Assumes nothing.
 use mathlib.Core.Path.{_≡_, refl, sym, ap, _∙_}
 use mathlib.Core.Logic.{_≢_}
@@ -20,20 +21,21 @@ use Rattle.lists.specs.Laws.Every.{every-map, every-joined, every-below}
 use Rattle.model.specs.Model.{rule}
 use Rattle.frames.specs.Frames.{frameCount, widthAt, slotAt}
 use Rattle.kinds.specs.Kinds.{sizeIn, sizeOf, markAt}
-use Rattle.regions.specs.Regions.{nameAt, nameOf, parentAt, newestAt, oldestAt}
-use Rattle.regions.specs.Laws.Entries.{name-none, name-some}
+use Rattle.regions.specs.Regions.{nameAt, nameOf, newestAt, oldestAt, aboveIn, allowsIn}
+use Rattle.regions.specs.Laws.Entries.{name-none}
 use Rattle.pages.specs.Pages.{pageCount, ownerAt, ownerOf, takenAt}
 use Rattle.objects.specs.Objects.{headersTo, headersOn}
 use Rattle.objects.specs.Laws.Walk.{walk-sizes}
 use Rattle.outcomes.specs.Store.{Store, frames, kinds, regions, pages}
-use Rattle.outcomes.specs.History.{Object, begin, listedHeld, pointersOf, leads, homeOf, parentOf, slotsLead, wordsLead, pagesHeld}
+use Rattle.outcomes.specs.History.{Object, begin, listedHeld, pointersOf, leads, homeOf, aboveOf, slotsLead, wordsLead, pagesHeld}
 use Rattle.outcomes.specs.Sound.{Sound, filled, newestOwn, oldestOwn}
-use Rattle.outcomes.specs.Laws.Begin.{holderOf, headersOf, headers, objectAt, holding, begin-objects, page-of, leads-among, pages-held, pages-filled, home-none, parent-is}
+use Rattle.outcomes.specs.Laws.Begin.{holderOf, headersOf, headers, objectAt, holding, begin-objects, page-of, leads-among, pages-held, pages-filled, home-none}
 use Rattle.outcomes.specs.Laws.Pointers.{Ordered, valueAt, every-slot, every-pointer, home-name, home-tag}
 use Rattle.audit_heap.specs.Heap.{headersIn, filledTo, pageFits, pagesFit, headersHeld, allHeaders, ticked, headAt}
 use Rattle.audit_slots.specs.Leads.{newestFits, oldestFits, entriesOwn, known, frameLeads, framesLead}
 use Rattle.audit_heap.specs.Laws.Ticks.{blank-ticked}
 use Rattle.audit_words.specs.Words.{wordHolds, objectHolds, objectsHold, pageHolds, pagesHold}
+use Rattle.calls_audit.specs.Laws.Tree.{Tree, above-same}
 
 module _ (S : Store) where
   -- ---- the tests over lists, of those of S
@@ -63,17 +65,17 @@ module _ (S : Store) where
   abbrev pub slotsPass : Bool
   slotsPass = framesLead stands ((frames S) .standing) ((frames S) .widths) ((frames S) .slots)
 
-  abbrev pub wordPasses : ℕ → ℕ → ℕ → ℕ → Bool
-  wordPasses = wordHolds stands ((regions S) .names) ((pages S) .owners)
+  abbrev pub wordPasses : ℕ → ℕ → ℕ → Bool
+  wordPasses = wordHolds stands ((regions S) .names) ((regions S) .parents) ((regions S) .levels) ((pages S) .owners)
 
-  abbrev pub objectPasses : ℕ → ℕ → ℕ → Bool
-  objectPasses = objectHolds stands ((regions S) .names) ((pages S) .owners) ((kinds S) .declared) ((kinds S) .sizes) ((kinds S) .marks) (S .heap)
+  abbrev pub objectPasses : ℕ → ℕ → Bool
+  objectPasses = objectHolds stands ((regions S) .names) ((regions S) .parents) ((regions S) .levels) ((pages S) .owners) ((kinds S) .declared) ((kinds S) .sizes) ((kinds S) .marks) (S .heap)
 
   abbrev pub pageWordsPass : ℕ → Bool
-  pageWordsPass = pageHolds stands ((regions S) .names) ((pages S) .owners) ((kinds S) .declared) ((kinds S) .sizes) ((kinds S) .marks) (S .heap) ((regions S) .parents) ((pages S) .taken)
+  pageWordsPass = pageHolds stands ((regions S) .names) ((regions S) .parents) ((regions S) .levels) ((pages S) .owners) ((kinds S) .declared) ((kinds S) .sizes) ((kinds S) .marks) (S .heap) ((pages S) .taken)
 
   abbrev pub wordsPass : Bool
-  wordsPass = pagesHold stands ((regions S) .names) ((pages S) .owners) ((kinds S) .declared) ((kinds S) .sizes) ((kinds S) .marks) (S .heap) ((regions S) .parents) ((pages S) .made) ((pages S) .taken)
+  wordsPass = pagesHold stands ((regions S) .names) ((regions S) .parents) ((regions S) .levels) ((pages S) .owners) ((kinds S) .declared) ((kinds S) .sizes) ((kinds S) .marks) (S .heap) ((pages S) .made) ((pages S) .taken)
 
   -- ---- pages
 
@@ -187,51 +189,51 @@ module _ (S : Store) where
 
     -- ---- words
 
-    -- a pointer word's test, in an object of the region named own, right below the one named above
-    abbrev fine : ℕ → ℕ → ℕ → ℕ → Bool
-    fine own above m x = eqb x 0 || (leads (begin S) x && rule m (homeOf (begin S) x) own above)
+    -- a pointer word's test, in an object of the region named own, below those named us
+    abbrev fine : ℕ → List ℕ → ℕ → ℕ → Bool
+    fine own us m x = eqb x 0 || (leads (begin S) x && rule m (homeOf (begin S) x) own us)
 
-    word-same : (own above m x : ℕ) → (eqb m 0 || fine own above m x) ≡ wordPasses own above m x
-    unfolding wordHolds nameOf ownerOf
-    word-same own above m x =
+    -- the regions above the one with tag t
+    abbrev aboveTag : ℕ → List ℕ
+    aboveTag = aboveIn ((regions S) .names) ((regions S) .parents) ((regions S) .levels)
+
+    word-same : (t m x : ℕ) → (eqb m 0 || fine (nameOf (regions S) t) (aboveTag t) m x) ≡ wordPasses t m x
+    unfolding wordHolds allowsIn nameOf ownerOf
+    word-same t m x =
+        let own = nameOf (regions S) t in
+        let us = aboveTag t in
         ap (λ b. eqb m 0 || b)
-        (pointer-same x (rule m (homeOf (begin S) x) own above) (rule m (nameOf (regions S) (ownerOf (pages S) x)) own above) (λ e. ap (λ t. rule m t own above) (home-name S h x (led x e))))
-
-    object-same : (q : ℕ) → let own = holderOf S (q / 64) in let above = parentOf (begin S) own in
-        every (λ w. fine own above (w .mark) (w .value)) (pointersOf (begin S) S (objectAt S q)) ≡ objectPasses own above q
-    unfolding objectHolds sizeOf markAt
-    object-same q =
-        let own = holderOf S (q / 64) in
-        let above = parentOf (begin S) own in
-        let k = getD (S .heap) q 0 in
-        every-pointer S (objectAt S q) (fine own above)
-        ∙ every-below _ _ (sizeOf (kinds S) k) (λ w l. word-same own above (markAt (kinds S) k w) (valueAt S q w))
-
-    -- the region above the holder of a page
-    above-same : (j : ℕ) → holderOf S j ≢ 0 → parentOf (begin S) (holderOf S j) ≡ nameOf (regions S) (parentAt (regions S) (ownerAt (pages S) j - 1))
-    above-same j n =
-        let t = ownerAt (pages S) j in
-        let e = name-some (regions S) t (λ z. n (free-none j z)) in
-        rw e (parent-is S (h .names) (h .few) (t - 1) (λ z. n (e ∙ z)))
+        (pointer-same x (rule m (homeOf (begin S) x) own us) (rule m (nameOf (regions S) (ownerOf (pages S) x)) own us) (λ e. ap (λ r. rule m r own us) (home-name S h x (led x e))))
 
     abbrev test : Object → Bool
-    test o = every (λ w. fine (o .home) (parentOf (begin S) (o .home)) (w .mark) (w .value)) (pointersOf (begin S) S o)
+    test o = every (λ w. fine (o .home) (aboveOf (begin S) (o .home)) (w .mark) (w .value)) (pointersOf (begin S) S o)
 
-    page-same : (j : ℕ) → j < pageCount (pages S) → every (λ q. test (objectAt S q)) (headersOf S j) ≡ pageWordsPass j
-    unfolding pageHolds objectsHold headersOn ownerAt nameOf parentAt takenAt
-    page-same j l = by-test (eqb (ownerAt (pages S) j) 0)
-        (λ e. rw (e, free-none j (eqb-true (ownerAt (pages S) j) 0 e)))
-        (λ e.
-        let n = h .owned j l (eqb-false (ownerAt (pages S) j) 0 e) in
-        let z = ne-eqb (holderOf S j) 0 n in
-        let hs = headersOn (kinds S) (S .heap) (pages S) j in
-        rw (e, z, ← above-same j n)
-        (every-same (λ q. test (objectAt S q)) (objectPasses (holderOf S j) (parentOf (begin S) (holderOf S j))) hs (all-map (λ q i. rw (← i) (object-same q)) hs (rw z at (page-of S j)))))
+    object-same : (q : ℕ) → let t = ownerAt (pages S) (q / 64) in aboveOf (begin S) (nameOf (regions S) t) ≡ aboveTag t → test (objectAt S q) ≡ objectPasses t q
+    unfolding objectHolds sizeOf markAt
+    object-same q e =
+        let t = ownerAt (pages S) (q / 64) in
+        let k = getD (S .heap) q 0 in
+        ap (λ us. every (λ w. fine (nameOf (regions S) t) us (w .mark) (w .value)) (pointersOf (begin S) S (objectAt S q))) e
+        ∙ every-pointer S (objectAt S q) (fine (nameOf (regions S) t) (aboveTag t))
+        ∙ every-below _ _ (sizeOf (kinds S) k) (λ w l. word-same t (markAt (kinds S) k w) (valueAt S q w))
 
-    pub words-same : wordsLead (begin S) S ≡ wordsPass
-    unfolding wordsLead pagesHold pageCount
-    words-same =
-        ap (every test) (begin-objects S)
-        ∙ every-map test (objectAt S) (headers S)
-        ∙ every-joined (λ q. test (objectAt S q)) (headersOf S) (upTo (pageCount (pages S)))
-        ∙ every-below (λ j. every (λ q. test (objectAt S q)) (headersOf S j)) pageWordsPass (pageCount (pages S)) page-same
+    module _ (tree : Tree S) where
+      page-same : (j : ℕ) → j < pageCount (pages S) → every (λ q. test (objectAt S q)) (headersOf S j) ≡ pageWordsPass j
+      unfolding pageHolds objectsHold headersOn ownerAt takenAt
+      page-same j l = by-test (eqb (ownerAt (pages S) j) 0)
+          (λ e. rw (e, free-none j (eqb-true (ownerAt (pages S) j) 0 e)))
+          (λ e.
+          let t = ownerAt (pages S) j in
+          let n = h .owned j l (eqb-false t 0 e) in
+          let z = ne-eqb (holderOf S j) 0 n in
+          let hs = headersOn (kinds S) (S .heap) (pages S) j in
+          rw (e, z)
+          (every-same (λ q. test (objectAt S q)) (objectPasses t) hs (all-map (λ q i. rw (← i) (object-same q (rw i (above-same S h tree t n)))) hs (rw z at (page-of S j)))))
+
+      pub words-same : wordsLead (begin S) S ≡ wordsPass
+      unfolding wordsLead pagesHold pageCount
+      words-same =
+          ap (every test) (begin-objects S)
+          ∙ every-map test (objectAt S) (headers S)
+          ∙ every-joined (λ q. test (objectAt S q)) (headersOf S) (upTo (pageCount (pages S)))
+          ∙ every-below (λ j. every (λ q. test (objectAt S q)) (headersOf S j)) pageWordsPass (pageCount (pages S)) page-same
