@@ -1,5 +1,6 @@
-// Rules that document 01 states and its cases leave out, on the store: the rows of `further` in the model from `lastDrops` on.
+// Rules that document 01 states and its cases leave out, and those of document 02's cards, on the store: the rows of `further` in the model from `lastDrops` on.
 // For each, make with its line, and then the row's calls, with the lines that the row prints.
+use state::State;
 use trials::ABOUT;
 use trials::ALLOCATE;
 use trials::AUDIT;
@@ -248,6 +249,125 @@ fn slots() {
     );
 }
 
+// A round (region 2), a grid in it (3), an attempt in the grid (4), another grid of the round (5) and another round (6), each with an object, in slots 0 to 4.
+fn rounds(heap: &mut [u32]) -> State {
+    let s = with_kind(heap, &[3u32]);
+    plays(
+        s,
+        heap,
+        3,
+        14,
+        &[
+            [PUSH, 6, 0, 0],
+            [NEW_REGION, 0, 0, 0],
+            [SUBREGION, 2, 0, 0],
+            [SUBREGION, 3, 0, 0],
+            [SUBREGION, 2, 0, 0],
+            [NEW_REGION, 0, 0, 0],
+            [ALLOCATE, 0, 2, 1],
+            [ALLOCATE, 1, 3, 1],
+            [ALLOCATE, 2, 4, 1],
+            [ALLOCATE, 3, 5, 1],
+            [ALLOCATE, 4, 6, 1],
+        ],
+    )
+}
+
+// A word marked 3 leads to any region above, and to none beside or below; the count there stays (document 02, card 1). Row `threeLevels`.
+fn three_levels() {
+    let mut heap = [0u32; 320];
+    let s = rounds(&mut heap);
+    plays(
+        s,
+        &mut heap,
+        14,
+        14,
+        &[
+            [REPORT, 2, 0, 0],
+            [SET_POINTER, 2, 0, 0],
+            [REPORT, 2, 0, 0],
+            [SET_POINTER, 2, 0, 1],
+            [SET_POINTER, 2, 0, 2],
+            [SET_POINTER, 2, 0, 5],
+            [SET_POINTER, 2, 0, 0],
+            [SET_POINTER, 2, 0, 4],
+            [SET_POINTER, 2, 0, 3],
+            [SET_POINTER, 0, 0, 1],
+            [SET_POINTER, 1, 0, 2],
+            [SET_POINTER, 0, 0, 2],
+            [LOAD, 2, 0, 5],
+            [SAME, 0, 5, 0],
+            [AUDIT, 0, 0, 0],
+            [DELETE, 2, 0, 0],
+            [CLEAR, 2, 0, 0],
+            [DELETE, 4, 0, 0],
+            [REPORT, 2, 0, 0],
+            [AUDIT, 0, 0, 0],
+        ],
+    );
+}
+
+// From level 16 to level 1, the longest way up; region 1 is not on it. Row `sixteenLevels`.
+fn sixteen_levels() {
+    let mut heap = [0u32; 192];
+    let s = with_kind(&mut heap, &[3u32]);
+    plays(
+        s,
+        &mut heap,
+        3,
+        19,
+        &[
+            [PUSH, 3, 0, 0],
+            [NEW_REGION, 0, 0, 0],
+            [SUBREGION, 2, 0, 0],
+            [SUBREGION, 3, 0, 0],
+            [SUBREGION, 4, 0, 0],
+            [SUBREGION, 5, 0, 0],
+            [SUBREGION, 6, 0, 0],
+            [SUBREGION, 7, 0, 0],
+            [SUBREGION, 8, 0, 0],
+            [SUBREGION, 9, 0, 0],
+            [SUBREGION, 10, 0, 0],
+            [SUBREGION, 11, 0, 0],
+            [SUBREGION, 12, 0, 0],
+            [SUBREGION, 13, 0, 0],
+            [SUBREGION, 14, 0, 0],
+            [SUBREGION, 15, 0, 0],
+            [SUBREGION, 16, 0, 0],
+            [SUBREGION, 17, 0, 0],
+            [ALLOCATE, 0, 17, 1],
+            [ALLOCATE, 1, 2, 1],
+            [ALLOCATE, 2, 1, 1],
+            [SET_POINTER, 0, 0, 1],
+            [SET_POINTER, 0, 0, 2],
+            [AUDIT, 0, 0, 0],
+        ],
+    );
+}
+
+// Region 1 where the way up ends, two levels above: its count stays. Row `toRegion1`.
+fn to_region_1() {
+    let mut heap = [0u32; 128];
+    let s = with_kind(&mut heap, &[3u32]);
+    plays(
+        s,
+        &mut heap,
+        3,
+        8,
+        &[
+            [PUSH, 2, 0, 0],
+            [SUBREGION, 1, 0, 0],
+            [SUBREGION, 2, 0, 0],
+            [ALLOCATE, 0, 3, 1],
+            [ALLOCATE, 1, 1, 1],
+            [REPORT, 1, 0, 0],
+            [SET_POINTER, 0, 0, 1],
+            [REPORT, 1, 0, 0],
+            [AUDIT, 0, 0, 0],
+        ],
+    );
+}
+
 fn main() {
     drops();
     lost_room();
@@ -257,4 +377,7 @@ fn main() {
     handed();
     words();
     slots();
+    three_levels();
+    sixteen_levels();
+    to_region_1();
 }

@@ -1,4 +1,4 @@
--- Rows beyond document 01's session and starred cases, in the form of the table: its other cases, and rules that its cases leave out. `Laws.Sessions` proves them too.
+-- Rows beyond document 01's session and starred cases, in the form of the table: its other cases, rules that its cases leave out, and those of document 02's cards. `Laws.Sessions` proves them too.
 -- Assumes nothing.
 use mathlib.Core.List.{List, [], _∷_, _++_}
 use Prim.Native.Nat.{_*_}
@@ -124,6 +124,49 @@ slotRules = record {
       ∷ line 24 3 0 0 0 0 ∷ line 25 2 0 0 0 0 ∷ [];
 }
 
+-- ---- Document 02, card 1: a word marked 3 may lead to any region above
+
+-- A round (region 2), a grid in it (3), an attempt in the grid (4), another grid of the round (5) and another round (6), each with an object. The attempt's word may lead
+-- to the round, the grid, the attempt itself and null; not to the other round or the other grid, and no word leads downward. The round's count stays,
+-- and the attempt can be deleted while its word leads to the round
+abbrev pub threeLevels : Row
+threeLevels = record {
+  lent = 5 * 64;
+  calls =
+      declare (3 ∷ []) ∷ push 6 ∷ newRegion ∷ subregion 2 ∷ subregion 3 ∷ subregion 2 ∷ newRegion ∷ allocate 0 2 1 ∷ allocate 1 3 1 ∷ allocate 2 4 1
+      ∷ allocate 3 5 1 ∷ allocate 4 6 1 ∷ report 2 ∷ setPointer 2 0 0 ∷ report 2 ∷ setPointer 2 0 1 ∷ setPointer 2 0 2 ∷ setPointer 2 0 5 ∷ setPointer 2 0 0
+      ∷ setPointer 2 0 4 ∷ setPointer 2 0 3 ∷ setPointer 0 0 1 ∷ setPointer 1 0 2 ∷ setPointer 0 0 2 ∷ load 2 0 5 ∷ same 0 5 ∷ audit ∷ delete 2 ∷ clear 2
+      ∷ delete 4 ∷ report 2 ∷ audit ∷ [];
+  skip = 13;
+  prints =
+      line 14 0 0 1 1 2 ∷ line 15 0 0 0 0 0 ∷ line 16 0 0 1 1 2 ∷ line 17 0 0 0 0 0 ∷ line 18 0 0 0 0 0 ∷ line 19 0 0 0 0 0 ∷ line 20 0 0 0 0 0
+      ∷ line 21 17 0 0 0 0 ∷ line 22 17 0 0 0 0 ∷ line 23 17 0 0 0 0 ∷ line 24 17 0 0 0 0 ∷ line 25 17 0 0 0 0 ∷ line 26 0 0 0 0 0 ∷ line 27 0 1 0 0 0
+      ∷ line 28 0 1 0 0 0 ∷ line 29 18 0 0 0 0 ∷ line 30 0 0 0 0 0 ∷ line 31 0 1 0 0 0 ∷ line 32 0 0 2 1 2 ∷ line 33 0 1 0 0 0 ∷ [];
+}
+
+-- from level 16 (region 17) to level 1 (region 2), the longest way up; region 1 is not on it
+abbrev pub sixteenLevels : Row
+sixteenLevels = record {
+  lent = 3 * 64;
+  calls =
+      declare (3 ∷ []) ∷ push 3 ∷ newRegion ∷ subregion 2 ∷ subregion 3 ∷ subregion 4 ∷ subregion 5 ∷ subregion 6 ∷ subregion 7 ∷ subregion 8 ∷ subregion 9
+      ∷ subregion 10 ∷ subregion 11 ∷ subregion 12 ∷ subregion 13 ∷ subregion 14 ∷ subregion 15 ∷ subregion 16 ∷ subregion 17 ∷ allocate 0 17 1
+      ∷ allocate 1 2 1 ∷ allocate 2 1 1 ∷ setPointer 0 0 1 ∷ setPointer 0 0 2 ∷ audit ∷ [];
+  skip = 18;
+  prints =
+      line 19 0 17 0 0 0 ∷ line 20 20 0 0 0 0 ∷ line 21 0 0 0 0 0 ∷ line 22 0 0 0 0 0 ∷ line 23 0 0 0 0 0 ∷ line 24 0 0 0 0 0 ∷ line 25 17 0 0 0 0
+      ∷ line 26 0 1 0 0 0 ∷ [];
+}
+
+-- region 1 where the way up ends, two levels above: its count stays
+abbrev pub toRegion1 : Row
+toRegion1 = record {
+  lent = 2 * 64;
+  calls = declare (3 ∷ []) ∷ push 2 ∷ subregion 1 ∷ subregion 2 ∷ allocate 0 3 1 ∷ allocate 1 1 1 ∷ report 1 ∷ setPointer 0 0 1 ∷ report 1 ∷ audit ∷ [];
+  skip = 7;
+  prints = line 8 0 0 1 1 1 ∷ line 9 0 0 0 0 0 ∷ line 10 0 0 1 1 1 ∷ line 11 0 1 0 0 0 ∷ [];
+}
+
 abbrev pub further : List Row
 further = heap0 ∷ heap16384 ∷ heap16448 ∷ threeFit ∷ push9 ∷ regions65
-    ∷ lastDrops ∷ lostRoom ∷ levels ∷ outgoing ∷ again ∷ handed ∷ wordRules ∷ slotRules ∷ []
+    ∷ lastDrops ∷ lostRoom ∷ levels ∷ outgoing ∷ again ∷ handed ∷ wordRules ∷ slotRules ∷ threeLevels ∷ sixteenLevels ∷ toRegion1 ∷ []

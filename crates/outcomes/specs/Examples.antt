@@ -160,6 +160,22 @@ setHeap x S = withHeap S x
 abbrev pub grown : Store
 grown = withRegions small (withRegion (regions small) 1 0 1)
 
+-- `small` with regions 3 and 7 too, which have no page: regions 1, 3, 5 and 7 at entries 0 to 3, by the tags of the regions above and by levels. The word marked 3 leads from
+-- region 5 to region 1 (document 02, card 1)
+abbrev pub tree : List ℕ → List ℕ → Store
+tree ps ls = small but setNames (1 ∷ 3 ∷ 5 ∷ 7 ∷ replicate 60 0) but setParents (ps ++ replicate 60 77) but setLevels (ls ++ replicate 60 77) but setCounts (2 ∷ 0 ∷ 2 ∷ replicate 61 0) but setNewest (1 ∷ 0 ∷ 2 ∷ replicate 61 0) but setOldest (1 ∷ 0 ∷ 65 ∷ replicate 61 0)
+
+-- the same with page 0 held by region 3, so that the word marked 3 leads from region 5 to region 3; the word marked 4 is null
+abbrev pub treeTo3 : List ℕ → List ℕ → Store
+treeTo3 ps ls = tree ps ls but setCounts (0 ∷ 2 ∷ 2 ∷ replicate 61 0) but setNewest (0 ∷ 1 ∷ 2 ∷ replicate 61 0) but setOldest (0 ∷ 1 ∷ 65 ∷ replicate 61 0) but setOwners (set ow 0 2) but setHeap (set hp 70 0)
+
+-- regions 3 and 5 in a ring, each above the other, and both at level 2
+abbrev pub ring : Store
+ring = tree (0 ∷ 3 ∷ 2 ∷ 0 ∷ []) (1 ∷ 2 ∷ 2 ∷ 1 ∷ [])
+
+abbrev pub ringTo3 : Store
+ringTo3 = treeTo3 (0 ∷ 3 ∷ 2 ∷ 0 ∷ []) (1 ∷ 2 ∷ 2 ∷ 1 ∷ [])
+
 -- A memory, and the numbers of Sound's clauses that it breaks, from 0 in the order of the fields; a clause added later goes to the end of Sound and of the
 -- list of clauses, so that these numbers stay:
 -- 0 counts, 1 slots, 2 words, 3 held, 4 made, 5 declared, 6 sizes, 7 marks, 8 standing, 9 widths, 10 levels, 11 given, 12 counted, 13 heapLength, 14 distinct, 15 namesGiven, 16 permanent, 17 parents, 18 filling, 19 newest, 20 oldest
@@ -185,8 +201,14 @@ examples =
     ∷ example (small but setHeap (set hp 68 66)) (2 ∷ [])
     -- a word marked 2 that leads to another region
     ∷ example (small but setHeap (set hp 68 1)) (2 ∷ [])
-    -- a word marked 3 that leads beyond the region above: region 5 at level 1 has none above
+    -- a word marked 3 that leads to a region beside the way up: region 5 at level 1 has none above
     ∷ example (small but setParents (set pa 2 0) but setLevels (set lv 2 1)) (2 ∷ [])
+    -- a word marked 3 that leads to a sibling: regions 3 and 5 are both below region 1
+    ∷ example (treeTo3 (0 ∷ 1 ∷ 1 ∷ 0 ∷ []) (1 ∷ 2 ∷ 2 ∷ 1 ∷ [])) (2 ∷ [])
+    -- downward: region 3 is below region 5
+    ∷ example (treeTo3 (0 ∷ 3 ∷ 1 ∷ 0 ∷ []) (1 ∷ 3 ∷ 2 ∷ 1 ∷ [])) (2 ∷ [])
+    -- beside the way up: region 5 is below 7, and 3 and 7 are below 1
+    ∷ example (treeTo3 (0 ∷ 1 ∷ 4 ∷ 1 ∷ []) (1 ∷ 2 ∷ 3 ∷ 2 ∷ [])) (2 ∷ [])
     -- a word marked 4 that leads to region 5
     ∷ example (small but setHeap (set hp 70 65)) (2 ∷ [])
     -- a page entered as neither: its entry is not in use. Its objects are then not live
@@ -231,6 +253,9 @@ examples =
     ∷ example (small but setParents (set pa 2 0) but setHeap (set hp 69 0)) (17 ∷ [])
     -- region 1 below region 5, the word marked 3 null
     ∷ example (small but setParents (3 ∷ 77 ∷ 0 ∷ replicate 61 77) but setLevels (2 ∷ 77 ∷ 1 ∷ replicate 61 77) but setHeap (set hp 69 0)) (17 ∷ [])
+    -- two regions in a ring, the word marked 3 leading out of it to region 1, and within it to region 3
+    ∷ example ring (2 ∷ 17 ∷ [])
+    ∷ example ringTo3 (17 ∷ [])
     -- a page taken one word further than its objects reach
     ∷ example (small but setTaken (set tk 0 7)) (18 ∷ [])
     -- an object that goes past what is taken: it is not met
@@ -243,6 +268,12 @@ examples =
     ∷ example (small but setOldest (set ol 2 1)) (20 ∷ [])
     -- an oldest object that is none
     ∷ example (small but setOldest (set ol 2 66)) (20 ∷ [])
+    -- a word marked 3 that leads two levels up, to region 1: region 5 is below 3, and 3 below 1
+    ∷ example (tree (0 ∷ 1 ∷ 2 ∷ 0 ∷ []) (1 ∷ 2 ∷ 3 ∷ 1 ∷ [])) []
+    -- two levels up, to region 3: region 5 is below 7, 7 below 3, and 3 below 1
+    ∷ example (treeTo3 (0 ∷ 1 ∷ 4 ∷ 2 ∷ []) (1 ∷ 2 ∷ 4 ∷ 3 ∷ [])) []
+    -- from level 16 to level 1: 16 regions, each below the one before, and page 1 held by the last
+    ∷ example (small but setGiven 16 but setNames (set chain 16 0) but setParents above but setLevels chain but setCounts (set (2 ∷ replicate 63 0) 15 2) but setNewest (set (1 ∷ replicate 63 0) 15 2) but setOldest (set (1 ∷ replicate 63 0) 15 65) but setOwners (set ow 1 16)) []
     -- entries not in use may hold anything: other slots, marks, region entries, owners and taken words past the pages made, words past those taken
     ∷ example (small but setSlots (set (set sl 2 1) 16 5) but setMarks (set mk 2 9) but setParents (set pa 1 0) but setLevels (set lv 1 99) but setCounts (set ct 1 5) but setOwners (set ow 2 1) but setTaken (set tk 5 3) but setHeap (set (set hp 6 1) 127 65)) []
     -- a region without newest page or oldest object entered

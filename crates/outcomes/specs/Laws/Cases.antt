@@ -1,12 +1,13 @@
--- What calls refuse and leave, computed on the memory `small` of Examples, where an edit of the calls that must be refused would refuse or leave something else: most cases name it.
+-- What calls refuse and leave, computed on `small` and other memories of Examples, where an edit of the calls that must be refused would refuse or leave something else: most cases name it.
 -- Assumes nothing.
 use mathlib.Core.Path.{_≡_, refl}
 use mathlib.Core.Bool.{true}
 use mathlib.Core.List.{List, [], _∷_}
 use Prim.Native.Nat.{ℕ}
 use lib.Dec.{eqb}
+use lib.ListN.{replicate}
 use Rattle.lists.specs.Lists.{bit, every, equal}
-use Rattle.model.specs.Model.{push, fetch, load, put, view, climb}
+use Rattle.model.specs.Model.{push, fetch, load, setPointer, put, view, climb}
 use Rattle.frames.specs.Frames.{frameCount, topFrame, widthAt, slotAt, putSlot, pushed, uncounts, popped, uncountsIn}
 use Rattle.kinds.specs.Kinds.{kindCount, sizeOf, markAt, allData as onlyData, sizeIn}
 use Rattle.regions.specs.Regions.{nameAt, nameOf, entryOf, parentAt, oldestAt, countAt, moved, rolled, withCounts, recount, entryIn, nameIn, upIn, levelIn, aboveIn, allowsIn}
@@ -14,7 +15,7 @@ use Rattle.pages.specs.Pages.{pageCount, ownerAt, ownerIn, ownerOf, pagesOf, wr
 use Rattle.objects.specs.Objects.{kindOf, wordCount, markOf, wordAt}
 use Rattle.outcomes.specs.Store.{Store, frames, regions, pages, slot, slotTargets, targetsIn, breaks, breaksIn}
 use Rattle.outcomes.specs.Outcome.{withFrames, badLength, noFrame, oneFrame, lacks, lacksBeneath, noWord, isData, allData, checks, refusal, fillSlot, writeWord, recounted, countedIn, popFrame, pointed, viewed}
-use Rattle.outcomes.specs.Examples.{small, _but_, setCounted}
+use Rattle.outcomes.specs.Examples.{small, _but_, setCounted, setLevels, treeTo3, ring, ringTo3}
 
 -- a third frame of two slots on top, the first leading to the object at 68; and the same with two frames counted
 abbrev three : Store
@@ -22,6 +23,10 @@ three = fillSlot (withFrames small (pushed (frames small) 2)) 0 68
 
 abbrev counted : Store
 counted = three but setCounted 2
+
+-- a memory with such a frame: its first slot leads to the object at 68, of region 5, and its second to the one at 4, on page 0
+abbrev upper : Store → Store
+upper S = fillSlot (fillSlot (withFrames S (pushed (frames S) 2)) 0 68) 1 4
 
 -- what is computed, and what it has to be
 abbrev cases : List (ℕ × ℕ)
@@ -51,6 +56,13 @@ cases =
     ∷ (countAt (regions (pointed small 65 0 68)) 0, 1)
     ∷ (countAt (regions (pointed small 65 0 68)) 2, 2)
     ∷ (countAt (regions (pointed small 68 1 1)) 0, 2)
+    -- set pointer with a word marked 3 (document 02, card 1): to a region two levels above, and beside the way up
+    ∷ (refusal (upper (treeTo3 (0 ∷ 1 ∷ 4 ∷ 2 ∷ []) (1 ∷ 2 ∷ 4 ∷ 3 ∷ []))) (setPointer 0 1 1), 0)
+    ∷ (refusal (upper (treeTo3 (0 ∷ 1 ∷ 4 ∷ 1 ∷ []) (1 ∷ 2 ∷ 3 ∷ 2 ∷ []))) (setPointer 0 1 1), 17)
+    -- regions in a ring, which the audit rejects: the climb ends, also at a level past the deepest; it meets region 3 and not region 1
+    ∷ (refusal (upper ring) (setPointer 0 1 1), 17)
+    ∷ (refusal (upper (ring but setLevels (replicate 64 255))) (setPointer 0 1 1), 17)
+    ∷ (refusal (upper ringTo3) (setPointer 0 1 1), 0)
     -- a pointer word is no data, a load's target is tested, and a word is read at its own place
     ∷ (refusal three (put 0 0 9), 16)
     ∷ (refusal three (load 0 0 7), 9)

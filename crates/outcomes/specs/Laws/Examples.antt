@@ -1,7 +1,7 @@
 -- The readings and the audit's clauses, computed on the memories of Examples.
 -- Assumes nothing.
 use mathlib.Core.Path.{_≡_, refl}
-use mathlib.Core.Bool.{Bool, true}
+use mathlib.Core.Bool.{Bool, true, false}
 use mathlib.Core.List.{List, [], _∷_, map}
 use Prim.Native.Nat.{ℕ, suc}
 use lib.Dec.{eqb}
@@ -13,8 +13,8 @@ use Rattle.regions.specs.Regions.{nameAt, nameOf, entryOf, parentAt, levelAt, n
 use Rattle.pages.specs.Pages.{pageCount, ownerAt, takenAt, isFree}
 use Rattle.objects.specs.Objects.{walk, headersTo, headersOn}
 use Rattle.outcomes.specs.History.{entries, listedRegions, listedKinds, listedFrames, listedHeld, listedFree, metOn, begin, slotsOf, pointersOf, leads, homeOf, slotsLeadingTo, wordsLeadingTo, outside, uncountedInto, storedCount, countsExact, slotsLead, wordsLead, pagesHeld}
-use Rattle.outcomes.specs.Sound.{filled, placed, newestOwn, oldestOwn, clauses}
-use Rattle.outcomes.specs.Examples.{Example, small, examples}
+use Rattle.outcomes.specs.Sound.{filled, placed, newestOwn, oldestOwn, clauses, sound}
+use Rattle.outcomes.specs.Examples.{Example, small, ring, examples}
 
 -- the places of the tests that fail
 abbrev failing : ℕ → List Bool → List ℕ
@@ -28,6 +28,11 @@ right e = equal eqb (failing 0 (clauses (e .memory))) (e .breaks)
 pub broken : every right examples ≡ true
 unfolding frameCount widthAt slotAt kindCount sizeOf markAt nameAt nameOf entryOf parentAt levelAt newestAt oldestAt countAt pageCount ownerAt takenAt isFree walk headersTo headersOn entries listedRegions listedKinds listedFrames listedHeld listedFree metOn begin slotsOf pointersOf leads homeOf slotsLeadingTo wordsLeadingTo outside uncountedInto storedCount countsExact slotsLead wordsLead pagesHeld filled placed newestOwn oldestOwn sizeIn nameIn entryIn climb
 broken = refl
+
+-- so the audit rejects regions in a ring; what set pointer answers there is in Cases
+rejected : sound ring ≡ false
+unfolding frameCount widthAt slotAt kindCount sizeOf markAt nameAt nameOf entryOf parentAt levelAt newestAt oldestAt countAt pageCount ownerAt takenAt isFree walk headersTo headersOn entries listedRegions listedKinds listedFrames listedHeld listedFree metOn begin slotsOf pointersOf leads homeOf slotsLeadingTo wordsLeadingTo outside uncountedInto storedCount countsExact slotsLead wordsLead pagesHeld filled placed newestOwn oldestOwn sizeIn nameIn entryIn climb sound
+rejected = refl
 
 -- what the accepted one lists
 met : begin small .objects ≡ record { place = 0; kind = 1; home = 1 } ∷ record { place = 3; kind = 3; home = 1 } ∷ record { place = 64; kind = 1; home = 5 } ∷ record { place = 67; kind = 2; home = 5 } ∷ []
