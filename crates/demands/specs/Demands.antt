@@ -110,6 +110,6 @@ RowHolds row =
 unfoldable pub TableHolds : Type 0
 TableHolds = All RowHolds table
 
--- More than document 01 asks: its other cases, and rules that its cases leave out
+-- More than document 01 asks: its other cases, rules that its cases leave out, and the cases of document 02's cards
 unfoldable pub FurtherHolds : Type 0
 FurtherHolds = All RowHolds further

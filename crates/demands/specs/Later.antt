@@ -1,14 +1,15 @@
 -- What document 02's cards promise beside the demands, after every list of calls from every start. Each is a type; the theorems are in Laws.Later.
 -- Assumes nothing.
 use mathlib.Core.Path.{_≡_}
-use mathlib.Core.Logic.{_↔_, _≢_, _⊎_}
+use mathlib.Core.Logic.{_≢_, _⊎_}
+use mathlib.Core.Bool.{true}
 use mathlib.Core.List.{List}
-use Prim.Native.Nat.{ℕ, zero, suc}
-use lib.ListN.{getD}
+use Prim.Native.Nat.{ℕ, zero, suc, _-_, _<_}
+use lib.ListN.{length, getD}
 use Rattle.lists.specs.Lists.{findOr, All}
 use Rattle.model.specs.Model.{Answer, setPointer, marks}
 use Rattle.outcomes.specs.Store.{Store, slot}
-use Rattle.outcomes.specs.History.{History, parentOf, pointersOf, at, homeOf}
+use Rattle.outcomes.specs.History.{History, isLive, parentOf, pointersOf, at, homeOf}
 use Rattle.outcomes.specs.Outcome.{Outcome}
 use Rattle.outcomes.specs.Runs.{Event, Run}
 use Rattle.demands.specs.Told.{history}
@@ -16,25 +17,33 @@ use Rattle.demands.specs.Demands.{Start}
 
 -- ---- Card 1: up to any height
 
--- where n steps lead, each from a region to the one above it
+-- where n steps lead from region r, each to the region above; 0 once none is above
 unfoldable pub steps : (ℕ → ℕ) → ℕ → ℕ → ℕ
 steps parent zero r = r
 steps parent (suc n) r = steps parent n (parent r)
 
--- region u is met on the way up from region r, at whatever height, or is r itself
+-- region u lives, and is region r or is met on the way up from it, at whatever height
 abbrev pub Reached : History → ℕ → ℕ → Type 0
-Reached h r u = (n : ℕ) × (steps (parentOf h) n r ≡ u)
+Reached h r u = (isLive h u ≡ true) × ((n : ℕ) × (steps (parentOf h) n r ≡ u))
 
--- the mark of word w of the live object that v leads to
-abbrev pub markOf : History → ℕ → ℕ → ℕ
-markOf h v w = getD (marks (h .kinds) ((findOr (at v) (record { place = 0; kind = 0; home = 0 }) (h .objects)) .kind)) w 0
+-- the mark of word w of the live object that v leads to, 0 where there is none
+abbrev pub markTold : History → ℕ → ℕ → ℕ
+markTold h v w = getD (marks (h .kinds) ((findOr (at v) (record { place = 0; kind = 0; home = 0 }) (h .objects)) .kind)) w 0
 
+-- the number of slots of the top frame, 0 where no frame stands
+abbrev pub topWidth : History → ℕ
+topWidth h = getD (h .frames) (length (h .frames) - 1) 0
+
+-- what holds of words marked 3 in a store and what its calls told
 pub record Climbs (h : History) (S : Store) : Type 0 where
+  -- level 16 bounds every way up: no region has 16 above it
+  pub ends : (r : ℕ) → isLive h r ≡ true → steps (parentOf h) 16 r ≡ 0
   -- a word marked 3 is null, or leads into a region that is reached from its own
   pub words : All (λ o. All (λ w. w .mark ≡ 3 → w .value ≢ 0 → Reached h (o .home) (homeOf h (w .value))) (pointersOf h S o)) (h .objects)
-  -- if the next call sets a word marked 3 and only its mark is left to test, it is accepted just where the pointer is null or leads into such a region
-  pub sets : (s w t : ℕ) (a : Answer) (T : Store) → Outcome (setPointer s w t) S a T → (a .refusal ≡ 0) ⊎ (a .refusal ≡ 17) → markOf h (slot S s) w ≡ 3
-      → (a .refusal ≡ 0) ↔ ((slot S t ≡ 0) ⊎ Reached h (homeOf h (slot S s)) (homeOf h (slot S t)))
+  -- if the next call sets a word marked 3, by slots that the top frame has, it answers 0 where the pointer is null or leads into such a region, and 17 where it does not
+  pub sets : (s w p : ℕ) (a : Answer) (T : Store) → Outcome (setPointer s w p) S a T → s < topWidth h → p < topWidth h → markTold h (slot S s) w ≡ 3
+      → let Allowed = (slot S p ≡ 0) ⊎ Reached h (homeOf h (slot S s)) (homeOf h (slot S p)) in ((a .refusal ≡ 0) × Allowed) ⊎ ((a .refusal ≡ 17) × (Allowed → ⊥))
 
+-- so after every list of calls from every start
 unfoldable pub AnyHeight : Type 0
 AnyHeight = (S : Store) (h : History) → Start S h → (es : List Event) (T : Store) → Run S es T → Climbs (history h es) T

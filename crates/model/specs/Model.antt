@@ -184,7 +184,7 @@ unfoldable pub climb : (ℕ → ℕ) → ℕ → ℕ → List ℕ
 climb parent zero r = []
 climb parent (suc n) r = pick (eqb (parent r) 0) [] (parent r ∷ climb parent n (parent r))
 
--- all regions above r: the deepest level is 16, so that no climb is longer
+-- all regions above r, where regions form a tree: the deepest level is 16, so that no climb is longer (document 02, card 1). Where they stand in a ring, the first 16 met
 abbrev pub above : (ℕ → ℕ) → ℕ → List ℕ
 above parent r = climb parent 16 r
 

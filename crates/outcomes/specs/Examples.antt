@@ -1,4 +1,4 @@
--- Memories written out: one that the audit accepts, for each clause of Sound some that break it, and some that differ only where nothing is read.
+-- Memories written out: one that the audit accepts, and some like it with a longer way up; for each clause of Sound some that break it, and some that differ only where nothing is read.
 -- Two pages, regions 1 and 5 (5 below 1), four objects, two frames of which one is counted. Entries not in use hold 77 or 99.
 -- Assumes nothing.
 use mathlib.Core.List.{List, [], _∷_, _++_}

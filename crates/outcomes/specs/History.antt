@@ -84,7 +84,7 @@ begin S = record {
 abbrev pub isLive : History → ℕ → Bool
 isLive h r = anyOf (λ g. eqb (g .name) r) (h .regions)
 
--- the region directly above r, 0 for none, and all regions above it
+-- the region directly above r, 0 for none; and all regions above r (document 02, card 1)
 abbrev pub parentOf : History → ℕ → ℕ
 parentOf h r = (findOr (λ g. eqb (g .name) r) (record { name = 0; parent = 0 }) (h .regions)) .parent
 
@@ -149,7 +149,7 @@ countsExact h S = every (λ g. eqb (storedCount S (g .name) + uncountedInto h S 
 unfoldable pub slotsLead : History → Store → Bool
 slotsLead h S = every (λ i. every (λ v. eqb v 0 || leads h v) (slotsOf h S i)) (upTo (length (h .frames)))
 
--- every pointer word too is null or leads to a live object, and to one that its mark allows
+-- every pointer word too is null or leads to a live object, and to one that its mark allows (mark 3: document 02, card 1)
 unfoldable pub wordsLead : History → Store → Bool
 wordsLead h S =
     every (λ o. every (λ w. eqb (w .value) 0 || (leads h (w .value) && rule (w .mark) (homeOf h (w .value)) (o .home) (aboveOf h (o .home)))) (pointersOf h S o)) (h .objects)

@@ -68,11 +68,11 @@ ledIn standing counted widths slots owners t = anyOf (λ i. among t (targetsIn w
 unfoldable pub ledInto : Store → ℕ → Bool
 ledInto S t = let f = frames S in ledIn (f .standing) (f .counted) (f .widths) (f .slots) ((pages S) .owners) t
 
--- x, which leads into the region with tag t, breaks the mark m of a word of the region with tag h
+-- x, which leads into the region with tag t, breaks the mark m of a word of the region with tag h; null breaks none
 unfoldable pub breaksIn : List ℕ → List ℕ → List ℕ → ℕ → ℕ → ℕ → ℕ → Bool
 breaksIn names parents levels m h x t = not (eqb x 0 || allowsIn names parents levels m h t)
 
--- the value x breaks the mark of word w of the object that v leads to (document 01, The store, on marks)
+-- the value x breaks the mark of word w of the object that v leads to (document 01, The store, on marks; document 02, card 1, on mark 3)
 unfoldable pub breaks : Store → ℕ → ℕ → ℕ → Bool
 breaks S v w x = breaksIn ((regions S) .names) ((regions S) .parents) ((regions S) .levels) (markOf (kinds S) (S .heap) v w) (ownerOf (pages S) v) x (ownerOf (pages S) x)
 

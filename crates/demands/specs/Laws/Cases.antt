@@ -13,9 +13,10 @@ use Rattle.kinds.specs.Kinds.{kindCount, sizeOf, markAt, sizeIn}
 use Rattle.regions.specs.Regions.{nameAt, nameOf, entryOf, parentAt, countAt, entryIn, nameIn}
 use Rattle.pages.specs.Pages.{pageCount, ownerAt, takenAt, isFree}
 use Rattle.objects.specs.Objects.{walk, headersTo, headersOn}
-use Rattle.outcomes.specs.History.{History, begin, entries, listedRegions, listedKinds, listedFrames, listedHeld, listedFree, metOn, slotsOf, pointersOf, homeOf, slotsLeadingTo, wordsLeadingTo, outside, storedCount, subregions, holders}
+use Rattle.outcomes.specs.History.{History, parentOf, begin, entries, listedRegions, listedKinds, listedFrames, listedHeld, listedFree, metOn, slotsOf, pointersOf, homeOf, slotsLeadingTo, wordsLeadingTo, outside, storedCount, subregions, holders}
 use Rattle.outcomes.specs.Examples.{small}
 use Rattle.outcomes.specs.Runs.{Event}
+use Rattle.demands.specs.Later.{steps}
 use Rattle.demands.specs.Told.{opening, withFrames, born, popped, objectMade, ended, told, note}
 
 -- three frames, the lower two counted; an object of region 1 at the start of page 1; a push that was refused
@@ -45,12 +46,15 @@ cases =
     ∷ (length ((note refused (opening 2)) .frames), 0)
     -- subregion_without_parent
     ∷ (subregions (born (opening 2) 2 1) 1, 1)
+    -- one_step_up: regions 2 and 3 below region 1 and each other; two steps lead from 3 to 1, a third to none
+    ∷ (steps (parentOf (born (born (opening 2) 2 1) 3 2)) 2 3, 1)
+    ∷ (steps (parentOf (born (born (opening 2) 2 1) 3 2)) 3 3, 0)
     -- uncounted_frames_left_out: one of region 5's outside pointers is in the frame that is not counted
     ∷ (outside (begin small) small 5, storedCount small 5 + 1)
     ∷ []
 
 pub computed : every (λ p. eqb (p .0) (p .1)) cases ≡ true
-unfolding opening born popped ended told note frameCount widthAt slotAt kindCount sizeOf markAt nameAt nameOf entryOf parentAt countAt pageCount ownerAt takenAt isFree walk headersTo headersOn begin entries listedRegions listedKinds listedFrames listedHeld listedFree metOn slotsOf pointersOf homeOf slotsLeadingTo wordsLeadingTo outside storedCount subregions sizeIn nameIn entryIn
+unfolding steps opening born popped ended told note frameCount widthAt slotAt kindCount sizeOf markAt nameAt nameOf entryOf parentAt countAt pageCount ownerAt takenAt isFree walk headersTo headersOn begin entries listedRegions listedKinds listedFrames listedHeld listedFree metOn slotsOf pointersOf homeOf slotsLeadingTo wordsLeadingTo outside storedCount subregions sizeIn nameIn entryIn
 computed = refl
 
 -- ---- regions that end together

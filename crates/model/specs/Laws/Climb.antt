@@ -66,6 +66,9 @@ module _ (L : Model) (v : Valid L) where
   pub parent-lives : (r : ℕ) → Lives r → parentIn L r ≢ 0 → Lives (parentIn L r)
   parent-lives r l h = or-other (eqb (parentIn L r) 0) _ (tree r l .parent) (ne-eqb (parentIn L r) 0 h)
 
+  pub level-some : (r : ℕ) → Lives r → 1 ≤ (region (L .regions) r) .level
+  level-some r l = omega (arith, tree r l .level)
+
   pub level-deep : (r : ℕ) → Lives r → (region (L .regions) r) .level ≤ 16
   level-deep r l = tree r l .deep
 
