@@ -1,15 +1,17 @@
 -- What document 02's cards promise beside the demands, after every list of calls from every start. Each is a type; the theorems are in Laws.Later.
 -- Assumes nothing.
 use mathlib.Core.Path.{_≡_}
-use mathlib.Core.Logic.{_≢_, _⊎_}
+use mathlib.Core.Logic.{_↔_, _≢_, _⊎_}
 use mathlib.Core.Bool.{true}
 use mathlib.Core.List.{List}
 use Prim.Native.Nat.{ℕ, zero, suc, _-_, _<_}
 use lib.ListN.{length, getD}
 use Rattle.lists.specs.Lists.{findOr, All}
-use Rattle.model.specs.Model.{Answer, setPointer, marks}
+use Rattle.model.specs.Model.{Answer, setPointer, marks, rule}
 use Rattle.outcomes.specs.Store.{Store, slot}
-use Rattle.outcomes.specs.History.{History, isLive, parentOf, pointersOf, at, homeOf}
+use Rattle.outcomes.specs.History.{History, begin, isLive, parentOf, aboveOf, pointersOf, at, homeOf}
+use Rattle.outcomes.specs.Sound.{soundLevels, soundDistinct, soundParents}
+use Rattle.outcomes.specs.Shape.{Sized}
 use Rattle.outcomes.specs.Outcome.{Outcome}
 use Rattle.outcomes.specs.Runs.{Event, Run}
 use Rattle.demands.specs.Told.{history}
@@ -26,7 +28,11 @@ steps parent (suc n) r = steps parent n (parent r)
 abbrev pub Reached : History → ℕ → ℕ → Type 0
 Reached h r u = (isLive h u ≡ true) × ((n : ℕ) × (steps (parentOf h) n r ≡ u))
 
--- the mark of word w of the live object that v leads to, 0 where there is none
+-- in a live region mark 3 allows just the live regions that are reached from it: what the marks' rule, which demand 3 and the audit have, comes to
+abbrev pub Reaches : History → Type 0
+Reaches h = (r u : ℕ) → isLive h r ≡ true → isLive h u ≡ true → (rule 3 u r (aboveOf h r) ≡ true) ↔ Reached h r u
+
+-- the mark of word w of the live object that v leads to: 0 for data, and where there is no such object or word
 abbrev pub markTold : History → ℕ → ℕ → ℕ
 markTold h v w = getD (marks (h .kinds) ((findOr (at v) (record { place = 0; kind = 0; home = 0 }) (h .objects)) .kind)) w 0
 
@@ -38,6 +44,7 @@ topWidth h = getD (h .frames) (length (h .frames) - 1) 0
 pub record Climbs (h : History) (S : Store) : Type 0 where
   -- level 16 bounds every way up: no region has 16 above it
   pub ends : (r : ℕ) → isLive h r ≡ true → steps (parentOf h) 16 r ≡ 0
+  pub reaches : Reaches h
   -- a word marked 3 is null, or leads into a region that is reached from its own
   pub words : All (λ o. All (λ w. w .mark ≡ 3 → w .value ≢ 0 → Reached h (o .home) (homeOf h (w .value))) (pointersOf h S o)) (h .objects)
   -- if the next call sets a word marked 3, by slots that the top frame has, it answers 0 where the pointer is null or leads into such a region, and 17 where it does not
@@ -47,3 +54,7 @@ pub record Climbs (h : History) (S : Store) : Type 0 where
 -- so after every list of calls from every start
 unfoldable pub AnyHeight : Type 0
 AnyHeight = (S : Store) (h : History) → Start S h → (es : List Event) (T : Store) → Run S es T → Climbs (history h es) T
+
+-- The audit's clause on words, on every memory, also one that it rejects for something else: where the clauses on names, levels and regions above hold, mark 3 has just that reach in what the memory lists
+unfoldable pub AuditsHeight : Type 0
+AuditsHeight = (S : Store) → Sized S → soundDistinct S ≡ true → soundLevels S ≡ true → soundParents S ≡ true → Reaches (begin S)

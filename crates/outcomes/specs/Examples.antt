@@ -160,7 +160,7 @@ setHeap x S = withHeap S x
 abbrev pub grown : Store
 grown = withRegions small (withRegion (regions small) 1 0 1)
 
--- `small` with regions 3 and 7 too, which have no page: regions 1, 3, 5 and 7 at entries 0 to 3, by the tags of the regions above and by levels. The word marked 3 leads from
+-- `small` with regions 3 and 7 too, which have no page: regions 1, 3, 5 and 7 at entries 0 to 3, given the tags of the regions above (ps) and the levels (ls). The word marked 3 leads from
 -- region 5 to region 1 (document 02, card 1)
 abbrev pub tree : List ℕ → List ℕ → Store
 tree ps ls = small but setNames (1 ∷ 3 ∷ 5 ∷ 7 ∷ replicate 60 0) but setParents (ps ++ replicate 60 77) but setLevels (ls ++ replicate 60 77) but setCounts (2 ∷ 0 ∷ 2 ∷ replicate 61 0) but setNewest (1 ∷ 0 ∷ 2 ∷ replicate 61 0) but setOldest (1 ∷ 0 ∷ 65 ∷ replicate 61 0)

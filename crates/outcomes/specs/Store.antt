@@ -5,7 +5,6 @@ use mathlib.Core.Bool.{Bool, not, _||_}
 use mathlib.Core.List.{List, map}
 use Prim.Native.Nat.{ℕ, _+_, _-_, _%_}
 use lib.Dec.{eqb, leb}
-use lib.ListN.{getD}
 use Rattle.lists.specs.Lists.{sumOf, anyOf, from, upTo, times, among}
 use Rattle.frames.specs.declared.Frames.{Frames}
 use Rattle.frames.specs.Frames.{frameCountIn, topFrame, widthIn, slotIn, slotAt}

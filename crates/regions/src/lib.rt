@@ -109,7 +109,7 @@ fn level_from(levels: &[u8], t: u32) -> u32
     cells::least(level_at(levels, t - 1), 16)
 }
 
-// Whether a region named n is met on the way up from the region with that tag, in no more steps than `level`, which is that region's where the climb begins. With each
+// Whether a region named n is met on the way up from the region with that tag, in no more steps than `level`, which is that region's, 16 at most, where the climb begins. With each
 // step up it falls by one, and no level is read again: so the climb ends, also where the regions above stand in a ring (document 02, card 1).
 fn is_above<'a>(names: &'a [u32], parents: &'a [u8], level: u32, t: u32, n: u32) -> bool
     ensures { λ r. ⌜ r ≡ among n (map (nameIn (now (names .entry))) (climb (upIn (now (parents .entry))) level t)) ⌝ }

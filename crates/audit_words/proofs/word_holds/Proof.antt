@@ -27,6 +27,17 @@ pointer c e = omega arith
 stands : (c : tie.After-stands-at) → let x = c .before .before in let a = x .before .before .before .before .before .before .before .before .args in headAt (a .heads .now) (x .word-at .result - 1) ≡ c .stands-at .result
 stands c = sym (c .stands-at .ensures)
 
+-- the rule is asked of the own region and the one led into
+asks : (c : tie.After-allows) →
+    let o = c .before in
+    let x = o .before .before .before .before in
+    let a = x .before .before .before .before .before .before .before .before .args in
+    c .allows .result ≡ allowsIn (a .names .now) (a .parents .now) (a .levels .now) (a .m) (a .own) (ownerIn (a .owners .now) (x .word-at .result))
+asks c =
+    let o = c .before in
+    let a = o .before .before .before .before .before .before .before .before .before .before .before .before .args in
+    c .allows .ensures ∙ ap (allowsIn (a .names .now) (a .parents .now) (a .levels .now) (a .m) (a .own)) (o .owner-of .ensures)
+
 returns : tie.Need-returns
 unfolding wordHolds
 returns c = simp (eq-eqb (c .before .before .before .before .before .before .before .args .m) 0 (omega arith))
@@ -44,14 +55,12 @@ returns-3 c =
 
 returns-4 : tie.Need-returns-4
 returns-4 c =
-    let o = c .before in
-    let t = o .before in
+    let t = c .before .before in
     let i = t .before .before in
     let x = i .before in
     let a = x .before .before .before .before .before .before .before .before .args in
     let v = x .word-at .result in
-    c .allows .ensures
-    ∙ ap (allowsIn (a .names .now) (a .parents .now) (a .levels .now) (a .m) (a .own)) (o .owner-of .ensures)
+    asks c
     ∙ by-rule (headAt (a .heads .now)) (a .names .now) (a .parents .now) (a .levels .now) (a .owners .now) (a .own) (a .m) v (ne-eqb _ _ (pointer (x .before))) (ne-eqb _ _ (i .if2 .left)) (stands (t .before) ∙ not-false (t .before .stands-at .result) (t .if3 .left))
     ∙ ap (wordHolds (headAt (a .heads .now)) (a .names .now) (a .parents .now) (a .levels .now) (a .owners .now) (a .own) (a .m)) (x .word-at .ensures)
 

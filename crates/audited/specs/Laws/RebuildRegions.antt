@@ -20,7 +20,7 @@ use Rattle.regions.specs.declared.Regions.{Regions}
 use Rattle.regions.specs.Regions.{nameAt, nameOf, entryOf, tagOf, entryIn, nameIn}
 use Rattle.outcomes.specs.Store.{Store, regions}
 use Rattle.outcomes.specs.History.{entries}
-use Rattle.outcomes.specs.Sound.{Sound}
+use Rattle.outcomes.specs.Sound.{soundDistinct, Sound}
 use Rattle.outcomes.specs.Shape.{Sized}
 use Rattle.outcomes.specs.Laws.Begin.{used-below, name-times, entry-is}
 use Rattle.audited.specs.Rebuild.{readRegion, rebuilt}
@@ -80,7 +80,7 @@ module _ (S : Store) (sh : Sized S) where
   live-name zero h = absurd (h refl)
   live-name (suc i) h = live-used i h
 
-  used-live : (r : ℕ) → livesIn (rebuilt S) r ≡ true → (i : ℕ) × (nameAt (regions S) i ≢ 0) × (nameAt (regions S) i ≡ r)
+  pub used-live : (r : ℕ) → livesIn (rebuilt S) r ≡ true → (i : ℕ) × (nameAt (regions S) i ≢ 0) × (nameAt (regions S) i ≡ r)
   unfolding entries
   used-live r e =
       let t = any-index (λ i. eqb (nameAt (regions S) i) r) (entries S) 0 (sym (live-by r) ∙ e) in
@@ -91,15 +91,15 @@ module _ (S : Store) (sh : Sized S) where
   unfolding rebuilt readRegion
   rows f = sym (entries-by S f) ∙ sym (sum-map (λ g. f (g .name)) (readRegion S) (entries S))
 
+  -- where names are distinct, an entry's name is no other's
+  pub few : soundDistinct S ≡ true → (i : ℕ) → nameAt (regions S) i ≢ 0 → countOf (λ k. eqb (nameAt (regions S) k) (nameAt (regions S) i)) (upTo 64) ≡ 1
+  few d i h = sym (name-times S (nameAt (regions S) i) h) ∙ eqb-true (times (nameAt (regions S) i) (map (nameAt (regions S)) (entries S))) 1 (each-entry _ d i h)
+
   -- ---- audited memory
 
   module _ (so : Sound S) where
-    -- an entry's name is no other's
-    few : (i : ℕ) → nameAt (regions S) i ≢ 0 → countOf (λ k. eqb (nameAt (regions S) k) (nameAt (regions S) i)) (upTo 64) ≡ 1
-    few i h = sym (name-times S (nameAt (regions S) i) h) ∙ eqb-true (times (nameAt (regions S) i) (map (nameAt (regions S)) (entries S))) 1 (each-entry _ (so .distinct) i h)
-
     entry-used : (i : ℕ) → nameAt (regions S) i ≢ 0 → entryOf (regions S) (nameAt (regions S) i) ≡ i
-    entry-used = entry-is S (sh .inRegions .names) few
+    entry-used = entry-is S (sh .inRegions .names) (few (so .distinct))
 
     find-used : (i : ℕ) → nameAt (regions S) i ≢ 0 → findOr (λ k. eqb (nameAt (regions S) k) (nameAt (regions S) i)) 64 (upTo 64) ≡ i
     unfolding entryOf entryIn nameAt

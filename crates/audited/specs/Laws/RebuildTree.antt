@@ -21,7 +21,7 @@ use Rattle.model.specs.Laws.Regions.{live-zero, level-is}
 use Rattle.regions.specs.Regions.{nameAt, nameOf, entryOf, parentAt, levelAt, oldestAt, nameIn}
 use Rattle.outcomes.specs.Store.{Store, regions}
 use Rattle.outcomes.specs.History.{begin, entries, leads, homeOf}
-use Rattle.outcomes.specs.Sound.{Sound, placed, oldestOwn}
+use Rattle.outcomes.specs.Sound.{soundParents, Sound, placed, oldestOwn}
 use Rattle.outcomes.specs.Shape.{Sized}
 use Rattle.refinement.specs.Represents.{tagFor, RegionsAgree}
 use Rattle.audited.specs.Rebuild.{places, readRegion, rebuilt}
@@ -39,22 +39,27 @@ distinct-few (g ∷ gs) h = (none, distinct-few gs (all-map (λ x k. omega (arit
         one : bit (eqb (g .name) (g .name)) ≡ 1
         one = rw (eq-eqb (g .name) (g .name) refl)
 
-module _ (S : Store) (sh : Sized S) (so : Sound S) where
-  -- the region above entry i: none, or one that lives
-  record Below (i p : ℕ) : Type 0 where
-    parent : parentAt (regions S) i ≡ suc p
-    used : nameAt (regions S) p ≢ 0
-    level : levelAt (regions S) i ≡ levelAt (regions S) p + 1
-    other : nameAt (regions S) i ≢ 1
+module _ (S : Store) where
+  -- entry p is above entry i, and lives
+  pub record Below (i p : ℕ) : Type 0 where
+    pub parent : parentAt (regions S) i ≡ suc p
+    pub used : nameAt (regions S) p ≢ 0
+    pub level : levelAt (regions S) i ≡ levelAt (regions S) p + 1
+    pub other : nameAt (regions S) i ≢ 1
 
-  above : (i : ℕ) → nameAt (regions S) i ≢ 0 → ((parentAt (regions S) i ≡ 0) × (levelAt (regions S) i ≡ 1)) ⊎ ((p : ℕ) × Below i p)
+  -- none is above entry i, or one that lives
+  abbrev pub Place : ℕ → Type 0
+  Place i = ((parentAt (regions S) i ≡ 0) × (levelAt (regions S) i ≡ 1)) ⊎ ((p : ℕ) × Below i p)
+
+  -- so where the clause on the regions above holds
+  pub entry-above : Sized S → soundParents S ≡ true → (i : ℕ) → nameAt (regions S) i ≢ 0 → Place i
   unfolding placed
-  above i h = go (parentAt (regions S) i) refl (each-entry S sh (placed S) (so .parents) i h)
+  entry-above sh tree i h = go (parentAt (regions S) i) refl (each-entry S sh (placed S) tree i h)
     where
       go : (t : ℕ) → parentAt (regions S) i ≡ t → elim t [
         | zero ↦ eqb (levelAt (regions S) i) 1
         | suc p ↦ not (eqb (nameAt (regions S) p) 0) && eqb (levelAt (regions S) i) (levelAt (regions S) p + 1) && not (eqb (nameAt (regions S) i) 1)
-      ] ≡ true → ((parentAt (regions S) i ≡ 0) × (levelAt (regions S) i ≡ 1)) ⊎ ((p : ℕ) × Below i p)
+      ] ≡ true → Place i
       go zero q e = inl (q, eqb-true (levelAt (regions S) i) 1 e)
       go (suc p) q e =
           let t = both _ (not (eqb (nameAt (regions S) i) 1)) e in
@@ -69,12 +74,16 @@ module _ (S : Store) (sh : Sized S) (so : Sound S) where
             },
           )
 
+module _ (S : Store) (sh : Sized S) (so : Sound S) where
+  above : (i : ℕ) → nameAt (regions S) i ≢ 0 → Place S i
+  above = entry-above S sh (so .parents)
+
   -- the name above, and its tag
   name-above : (i : ℕ) → nameAt (regions S) i ≢ 0 → parentAt (regions S) i ≡ tagFor (regions S) (nameOf (regions S) (parentAt (regions S) i))
   unfolding nameOf nameAt nameIn
   name-above i h = go (above i h)
     where
-      go : ((parentAt (regions S) i ≡ 0) × (levelAt (regions S) i ≡ 1)) ⊎ ((p : ℕ) × Below i p) → parentAt (regions S) i ≡ tagFor (regions S) (nameOf (regions S) (parentAt (regions S) i))
+      go : Place S i → parentAt (regions S) i ≡ tagFor (regions S) (nameOf (regions S) (parentAt (regions S) i))
       go (inl e) = rw (e .0)
       go (inr (p, b)) = rw (b .parent) (sym (for-some (regions S) (nameAt (regions S) p) (b .used) ∙ tag-name S sh so (suc p) (b .used)))
 
@@ -112,7 +121,7 @@ module _ (S : Store) (sh : Sized S) (so : Sound S) where
       deep : levelAt (regions S) i ≤ 16
       deep = leb-true (levelAt (regions S) i) 16 (each-entry S sh (λ i. leb (levelAt (regions S) i) 16) (so .levels) i h)
 
-      go : ((parentAt (regions S) i ≡ 0) × (levelAt (regions S) i ≡ 1)) ⊎ ((p : ℕ) × Below i p) → ValidParent ((rebuilt S) .regions) (readRegion S i)
+      go : Place S i → ValidParent ((rebuilt S) .regions) (readRegion S i)
       go (inl e) = record { parent = rw (e .0); level = rw (e .0, e .1); deep = deep }
       go (inr (p, b)) =
           let r = nameAt (regions S) p in
@@ -150,7 +159,7 @@ module _ (S : Store) (sh : Sized S) (so : Sound S) where
       i : ℕ
       i = entryOf (regions S) 1
 
-      go : ((parentAt (regions S) i ≡ 0) × (levelAt (regions S) i ≡ 1)) ⊎ ((p : ℕ) × Below i p) → nameOf (regions S) (parentAt (regions S) i) ≡ 0
+      go : Place S i → nameOf (regions S) (parentAt (regions S) i) ≡ 0
       go (inl e) = rw (e .0)
       go (inr (p, b)) = absurd (b .other (t .name))
 

@@ -33,9 +33,9 @@ module _ (S : Store) where
 
   -- the region above one that lives does too, and is less deep; none is deeper than 16
   pub record Tree : Type 0 where
-    pub lives : (t : ℕ) → Lives t → up t ≢ 0 → Lives (up t)
-    pub falls : (t : ℕ) → Lives t → up t ≢ 0 → level (up t) < level t
-    pub deep : (t : ℕ) → Lives t → level t ≤ 16
+    lives : (t : ℕ) → Lives t → up t ≢ 0 → Lives (up t)
+    falls : (t : ℕ) → Lives t → up t ≢ 0 → level (up t) < level t
+    deep : (t : ℕ) → Lives t → level t ≤ 16
 
   -- ---- by the tests of the state
 

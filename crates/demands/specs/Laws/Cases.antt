@@ -46,7 +46,7 @@ cases =
     ∷ (length ((note refused (opening 2)) .frames), 0)
     -- subregion_without_parent
     ∷ (subregions (born (opening 2) 2 1) 1, 1)
-    -- one_step_up: regions 2 and 3 below region 1 and each other; two steps lead from 3 to 1, a third to none
+    -- one_step_up: region 2 below region 1, and 3 below 2. Two steps lead from 3 to 1, a third to none
     ∷ (steps (parentOf (born (born (opening 2) 2 1) 3 2)) 2 3, 1)
     ∷ (steps (parentOf (born (born (opening 2) 2 1) 3 2)) 3 3, 0)
     -- uncounted_frames_left_out: one of region 5's outside pointers is in the frame that is not counted

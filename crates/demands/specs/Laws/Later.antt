@@ -1,36 +1,46 @@
 -- What the cards promise, proved of a store that represents a valid model and a history that tells of it, and so after every list of calls.
 -- Assumes nothing.
-use mathlib.Core.Path.{_≡_, refl, sym, ap, _∙_}
+use mathlib.Core.Path.{_≡_, refl, sym, ap, _∙_, subst}
 use mathlib.Core.Logic.{_↔_, _≢_, _⊎_, inl, inr, ⊎-elim}
-use mathlib.Core.Bool.{Bool, true, false, not, _&&_, _||_, true≢false, false≢true}
-use mathlib.Core.List.{List, [], _∷_, map}
+use mathlib.Core.Bool.{true, false, not, _&&_, _||_, true≢false, false≢true}
+use mathlib.Core.List.{List, [], map}
 use Prim.Native.Nat.{ℕ, zero, suc, _+_, _-_, _≤_, _<_}
 use native.Mathlib.Omega.{arith}
 use lib.Dec.{eqb, leb}
 use lib.ListN.{length, getD, length-map, List·getD-map, List·getD-eq-default}
 use borrow.Author.Tests.{eqb-true, eqb-false, eq-eqb, ne-eqb, leb-true, leb-false, lt-leb}
-use Rattle.lists.specs.Lists.{pick, every, findOr, All, among}
+use Rattle.lists.specs.Lists.{pick, anyOf, findOr, All, among}
 use Rattle.lists.specs.Laws.Tests.{by-test, both, or-right, or-other}
 use Rattle.lists.specs.Laws.All.{all-map, all-both}
-use Rattle.lists.specs.Laws.Finds.{every-true, all-found, find-none, false-any}
+use Rattle.lists.specs.Laws.Finds.{any-map, every-true, all-found, find-none, false-any}
 use Rattle.lists.specs.Laws.Kept.{all-each}
-use Rattle.model.specs.Model.{Model, Answer, setPointer, region, slot as modelSlot, inSlot, slotMarks, markAt, top, topPlace, livesIn, homeIn, parentIn, climb, above, rule, allowed}
+use Rattle.model.specs.Model.{Model, Answer, setPointer, region, slot as modelSlot, inSlot, slotMarks, markAt, top, topPlace, livesIn, homeIn, parentIn, climb, rule, allowed}
 use Rattle.model.specs.Calls.{checks, refusal, lacks, noFrame, null, noWord}
 use Rattle.model.specs.Valid.{Valid}
 use Rattle.model.specs.Laws.Regions.{live-zero}
 use Rattle.model.specs.Laws.Slots.{Known, slot-lives}
 use Rattle.model.specs.Laws.Climb.{climb-top, parent-lives, level-some, level-deep, level-falls}
-use Rattle.outcomes.specs.Store.{Store, slot}
-use Rattle.outcomes.specs.History.{History, Object, Word, parentOf, aboveOf, isLive, pointersOf, at, leads, homeOf, wordsLead}
+use Rattle.regions.specs.declared.Regions.{Regions}
+use Rattle.regions.specs.Regions.{nameAt, nameOf, nameIn, entryOf, parentAt, levelAt}
+use Rattle.outcomes.specs.Store.{Store, regions, slot}
+use Rattle.outcomes.specs.History.{History, Object, Word, begin, parentOf, aboveOf, isLive, pointersOf, at, leads, homeOf, wordsLead}
+use Rattle.outcomes.specs.Sound.{soundLevels, soundDistinct, soundParents}
+use Rattle.outcomes.specs.Shape.{Sized}
 use Rattle.outcomes.specs.Outcome.{Outcome}
+use Rattle.outcomes.specs.Laws.Begin.{entry-is, parent-is as parent-listed}
 use Rattle.promises.specs.Promises.{Refusals}
 use Rattle.promises.specs.Laws.Refused.{refusals}
 use Rattle.refinement.specs.Represents.{Represents, spot}
 use Rattle.refinement.specs.Laws.Reads.{frame-in, top-known, slot-is, spot-zero, sized-known}
 use Rattle.refinement.specs.Laws.Refusals.{refusals-agree}
-use Rattle.histories.specs.Laws.Tells.{Tells, live-is, parent-is, above-is, each-met, home-is, kind-is}
+use Rattle.histories.specs.Laws.Tells.{Tells, listed, live-is, parent-is, above-is, each-met, home-is, kind-is}
 use Rattle.histories.specs.Laws.Pointers.{words-lead}
-use Rattle.demands.specs.Later.{steps, Reached, markTold, topWidth, Climbs, AnyHeight}
+use Rattle.audited.specs.Rebuild.{rebuilt}
+use Rattle.audited.specs.Laws.RebuildRegions.{each-entry, live-used, used-live, few}
+use Rattle.audited.specs.Laws.RebuildTree.{Below, Place, entry-above}
+use Rattle.audited.specs.Laws.RebuildLaid.{begin-regions}
+use Rattle.demands.specs.Told.{history}
+use Rattle.demands.specs.Later.{steps, Reached, Reaches, markTold, topWidth, AnyHeight, AuditsHeight}
 use Rattle.demands.specs.Laws.Steps.{run-told}
 use Rattle.demands.specs.Laws.Demand3.{start-told}
 
@@ -75,43 +85,96 @@ module _ (parent : ℕ → ℕ) where
         let y = eqb-false (parent r) 0 z in
         rw z (or-right (eqb (parent r) u) _ (steps-met n k (parent r) u (closed r p y) (omega (arith, falls r p y)) d e)))
 
-module _ {L : Model} {sp : List ℕ} {ids : ℕ → List ℕ} {S : Store} {h : History} (v : Valid L) (rep : Represents L sp ids S) (t : Tells L sp h) where
-  abbrev Lives : ℕ → Type 0
-  Lives r = livesIn L r ≡ true
+-- the live regions of a history form a tree, no deeper than 16
+record Tree (h : History) : Type 0 where
+  level : ℕ → ℕ
+  dead : isLive h 0 ≡ false
+  lives : (r : ℕ) → isLive h r ≡ true → parentOf h r ≢ 0 → isLive h (parentOf h r) ≡ true
+  falls : (r : ℕ) → isLive h r ≡ true → parentOf h r ≢ 0 → level (parentOf h r) < level r
+  some : (r : ℕ) → isLive h r ≡ true → 1 ≤ level r
+  deep : (r : ℕ) → isLive h r ≡ true → level r ≤ 16
 
-  live-told : (r : ℕ) → isLive h r ≡ true → Lives r
-  live-told r l = sym (live-is t r) ∙ l
+module _ (h : History) (k : Tree h) where
+  none : parentOf h 0 ≡ 0
+  none = ap (λ g. g .parent) (find-none (λ g. eqb (g .name) 0) (record { name = 0; parent = 0 }) (h .regions) (k .dead))
 
-  live-some : (r : ℕ) → Lives r → r ≢ 0
-  live-some r l e = true≢false (sym l ∙ ap (livesIn L) e ∙ live-zero (L .regions) (v .names .named))
-
-  -- the tree of regions, as the history tells it
-  none-above : parentOf h 0 ≡ 0
-  none-above = ap (λ g. g .parent) (find-none (λ g. eqb (g .name) 0) (record { name = 0; parent = 0 }) (h .regions) (live-is t 0 ∙ live-zero (L .regions) (v .names .named)))
-
-  abbrev level : ℕ → ℕ
-  level r = (region (L .regions) r) .level
-
-  up-lives : (r : ℕ) → Lives r → parentOf h r ≢ 0 → Lives (parentOf h r)
-  up-lives r l n = rw (parent-is t v r l) (parent-lives L v r l (λ z. n (parent-is t v r l ∙ z)))
-
-  up-falls : (r : ℕ) → Lives r → parentOf h r ≢ 0 → level (parentOf h r) < level r
-  up-falls r l n = rw (parent-is t v r l) (level-falls L v r l (λ z. n (parent-is t v r l ∙ z)))
+  live-some : (r : ℕ) → isLive h r ≡ true → r ≢ 0
+  live-some r l e = true≢false (sym l ∙ ap (isLive h) e ∙ k .dead)
 
   over : (r : ℕ) → isLive h r ≡ true → steps (parentOf h) 16 r ≡ 0
-  over r l = let k = live-told r l in steps-over (parentOf h) none-above Lives up-lives level up-falls (level-some L v) 16 r k (level-deep L v r k)
+  over r l = steps-over (parentOf h) none (λ r. isLive h r ≡ true) (k .lives) (k .level) (k .falls) (k .some) 16 r l (k .deep r l)
 
-  -- what mark 3 allows in a live region is just what is reached from it
-  up-reached : (r u : ℕ) → Lives r → isLive h u ≡ true → (rule 3 u r (aboveOf h r) ≡ true) ↔ Reached h r u
+  reached : Reaches h
   unfolding steps
-  up-reached r u l k = (
-    (λ e. (k, by-test (eqb u r) (λ z. (0, sym (eqb-true u r z))) (λ z. let q = met-steps (parentOf h) 16 r u (or-other (eqb u r) _ e z) in (suc (q .0), q .1)))),
+  reached r u l m = (
+    (λ e. (m, by-test (eqb u r) (λ z. (0, sym (eqb-true u r z))) (λ z. let q = met-steps (parentOf h) 16 r u (or-other (eqb u r) _ e z) in (suc (q .0), q .1)))),
     (λ q. back (q .1)),
   )
     where
       back : (n : ℕ) × (steps (parentOf h) n r ≡ u) → (eqb u r || among u (aboveOf h r)) ≡ true
       back (zero, e) = rw (eq-eqb u r (sym e))
-      back (suc n, e) = or-right (eqb u r) _ (steps-met (parentOf h) none-above Lives up-lives level up-falls 16 n r u l (level-deep L v r l) (live-some u (live-told u k)) e)
+      back (suc n, e) = or-right (eqb u r) _ (steps-met (parentOf h) none (λ r. isLive h r ≡ true) (k .lives) (k .level) (k .falls) 16 n r u l (k .deep r l) (live-some u m) e)
+
+-- ---- what a memory lists, where names are distinct and the clauses on levels and regions above hold
+
+module _ (S : Store) (sh : Sized S) (d : soundDistinct S ≡ true) (l : soundLevels S ≡ true) (p : soundParents S ≡ true) where
+  abbrev g : Regions
+  g = regions S
+
+  -- a live region is that of an entry in use
+  live-same : (r : ℕ) → isLive (begin S) r ≡ livesIn (rebuilt S) r
+  live-same r = ap (anyOf (λ g. eqb (g .name) r)) (begin-regions S) ∙ any-map (λ g. eqb (g .name) r) listed ((rebuilt S) .regions)
+
+  at-entry : (P : ℕ → Type 0) → ((i : ℕ) → nameAt g i ≢ 0 → P (nameAt g i)) → (r : ℕ) → isLive (begin S) r ≡ true → P r
+  at-entry P f r e = let t = used-live S sh r (sym (live-same r) ∙ e) in subst P (t .2) (f (t .0) (t .1))
+
+  parent-at : (i : ℕ) → nameAt g i ≢ 0 → parentOf (begin S) (nameAt g i) ≡ nameOf g (parentAt g i)
+  parent-at = parent-listed S (sh .inRegions .names) (few S sh d)
+
+  level-at : (i : ℕ) → nameAt g i ≢ 0 → levelAt g (entryOf g (nameAt g i)) ≡ levelAt g i
+  level-at i n = ap (levelAt g) (entry-is S (sh .inRegions .names) (few S sh d) i n)
+
+  -- the entry above, where there is one
+  up : (i : ℕ) → nameAt g i ≢ 0 → parentOf (begin S) (nameAt g i) ≢ 0 → (q : ℕ) × (parentOf (begin S) (nameAt g i) ≡ nameAt g q) × Below S i q
+  unfolding nameOf nameIn nameAt
+  up i n m = go (entry-above S sh p i n)
+    where
+      go : Place S i → (q : ℕ) × (parentOf (begin S) (nameAt g i) ≡ nameAt g q) × Below S i q
+      go (inl e) = absurd (m (parent-at i n ∙ ap (nameOf g) (e .0)))
+      go (inr (q, b)) = (q, parent-at i n ∙ ap (nameOf g) (b .parent), b)
+
+  level-one : (i : ℕ) → nameAt g i ≢ 0 → 1 ≤ levelAt g i
+  level-one i n = go (entry-above S sh p i n)
+    where
+      go : Place S i → 1 ≤ levelAt g i
+      go (inl e) = omega (arith, e .1)
+      go (inr (q, b)) = omega (arith, b .level)
+
+  tree-listed : Tree (begin S)
+  tree-listed = record {
+    level = λ r. levelAt g (entryOf g r);
+    dead = by-test (isLive (begin S) 0) (λ e. absurd (at-entry (λ r. r ≢ 0) (λ i n. n) 0 e refl)) (λ e. e);
+    lives = at-entry (λ r. parentOf (begin S) r ≢ 0 → isLive (begin S) (parentOf (begin S) r) ≡ true) (λ i n m. let u = up i n m in rw (u .1) (live-same (nameAt g (u .0)) ∙ live-used S sh (u .0) (u .2 .used)));
+    falls = at-entry (λ r. parentOf (begin S) r ≢ 0 → levelAt g (entryOf g (parentOf (begin S) r)) < levelAt g (entryOf g r)) (λ i n m. let u = up i n m in rw (u .1, level-at (u .0) (u .2 .used), level-at i n) (omega (arith, u .2 .level)));
+    some = at-entry (λ r. 1 ≤ levelAt g (entryOf g r)) (λ i n. rw (level-at i n) (level-one i n));
+    deep = at-entry (λ r. levelAt g (entryOf g r) ≤ 16) (λ i n. rw (level-at i n) (leb-true (levelAt g i) 16 (each-entry S sh (λ i. leb (levelAt g i) 16) l i n)));
+  }
+
+-- ---- a history that tells of a valid model, and the store that represents it
+
+module _ {L : Model} {sp : List ℕ} {ids : ℕ → List ℕ} {S : Store} {h : History} (v : Valid L) (rep : Represents L sp ids S) (t : Tells L sp h) where
+  live-told : (r : ℕ) → isLive h r ≡ true → livesIn L r ≡ true
+  live-told r l = sym (live-is t r) ∙ l
+
+  tree-told : Tree h
+  tree-told = record {
+    level = λ r. (region (L .regions) r) .level;
+    dead = live-is t 0 ∙ live-zero (L .regions) (v .names .named);
+    lives = λ r l n. let k = live-told r l in rw (parent-is t v r k) (live-is t (parentIn L r) ∙ parent-lives L v r k (λ z. n (parent-is t v r k ∙ z)));
+    falls = λ r l n. let k = live-told r l in rw (parent-is t v r k) (level-falls L v r k (λ z. n (parent-is t v r k ∙ z)));
+    some = λ r l. level-some L v r (live-told r l);
+    deep = λ r l. level-deep L v r (live-told r l);
+  }
 
   -- every object's region lives, so a pointer that leads to an object leads into a live region
   homes-live : All (λ o. isLive h (o .home) ≡ true) (h .objects)
@@ -130,7 +193,7 @@ module _ {L : Model} {sp : List ℕ} {ids : ℕ → List ℕ} {S : Store} {h : H
           → w .value ≢ 0 → Reached h (o .home) (homeOf h (w .value))
       word o w l e d =
           let q = both (leads h (w .value)) _ (or-other (eqb (w .value) 0) _ e (ne-eqb (w .value) 0 d)) in
-          up-reached (o .home) (homeOf h (w .value)) (live-told _ l) (home-live (w .value) (q .0)) .0 (q .1)
+          reached h tree-told (o .home) (homeOf h (w .value)) l (home-live (w .value) (q .0)) .0 (q .1)
 
   -- ---- the next set pointer
 
@@ -138,11 +201,11 @@ module _ {L : Model} {sp : List ℕ} {ids : ℕ → List ℕ} {S : Store} {h : H
   top-width = ap (λ fs. getD fs (length fs - 1) 0) (t .frames) ∙ ap (λ n. getD (map length (L .frames)) (n - 1) 0) (length-map (L .frames) length) ∙ List·getD-map length (L .frames) (topPlace (L .frames)) []
 
   -- the test of a mark 3, by what the history tells
-  allows-up : (q x : ℕ) → Lives (homeIn L q) → Known L x → (allowed (parentIn L) (homeIn L) (homeIn L q) 3 x ≡ true) ↔ ((spot sp x ≡ 0) ⊎ Reached h (homeIn L q) (homeIn L x))
+  allows-up : (q x : ℕ) → livesIn L (homeIn L q) ≡ true → Known L x → (allowed (parentIn L) (homeIn L) (homeIn L q) 3 x ≡ true) ↔ ((spot sp x ≡ 0) ⊎ Reached h (homeIn L q) (homeIn L x))
   unfolding allowed
   allows-up q x l k =
       let z = spot-zero (rep .onObjects) x k in
-      let up : eqb x 0 ≡ false → (rule 3 (homeIn L x) (homeIn L q) (aboveOf h (homeIn L q)) ≡ true) ↔ Reached h (homeIn L q) (homeIn L x) = λ d. up-reached (homeIn L q) (homeIn L x) l (live-is t (homeIn L x) ∙ or-other (eqb x 0) _ k d) in
+      let up : eqb x 0 ≡ false → (rule 3 (homeIn L x) (homeIn L q) (aboveOf h (homeIn L q)) ≡ true) ↔ Reached h (homeIn L q) (homeIn L x) = λ d. reached h tree-told (homeIn L q) (homeIn L x) (live-is t (homeIn L q) ∙ l) (live-is t (homeIn L x) ∙ or-other (eqb x 0) _ k d) in
       by-test (eqb x 0)
       (λ e. ((λ _. inl (eqb-true (spot sp x) 0 (z ∙ e))), (λ _. rw e)))
       (λ e. (
@@ -161,16 +224,16 @@ module _ {L : Model} {sp : List ℕ} {ids : ℕ → List ℕ} {S : Store} {h : H
     led : null L s ≡ false
     led = by-test (null L s) (λ e. absurd (no-word (eqb-true (modelSlot L s) 0 e))) (λ e. e)
       where
-        none : Object
-        none = record { place = 0; kind = 0; home = 0 }
+        nothing : Object
+        nothing = record { place = 0; kind = 0; home = 0 }
 
-        nowhere : findOr (at 0) none (h .objects) ≡ none
-        nowhere = find-none (at 0) none (h .objects) (false-any (at 0) (h .objects) (all-each _ (λ o. ne-eqb (o .place + 1) 0 (λ z. omega arith)) (h .objects)))
+        nowhere : findOr (at 0) nothing (h .objects) ≡ nothing
+        nowhere = find-none (at 0) nothing (h .objects) (false-any (at 0) (h .objects) (all-each _ (λ o. ne-eqb (o .place + 1) 0 (λ z. omega arith)) (h .objects)))
 
         no-word : modelSlot L s ≡ 0 → ⊥
         no-word z = let m = rw (slot-is rep s (has s in₁), z, nowhere) at three in omega (arith, m)
 
-    lives : Lives ((inSlot L s) .home)
+    lives : livesIn L ((inSlot L s) .home) ≡ true
     lives = slot-lives L v s led
 
     marked : markAt L s w ≡ 3
@@ -206,7 +269,12 @@ any-height S h s es T r =
     let k = run-told (start-told S h s .2) r .1 in
     let g = k .good in
     record {
-      ends = over (g .valid) (g .represents) (k .tells);
+      ends = over (history h es) (tree-told (g .valid) (g .represents) (k .tells));
+      reaches = reached (history h es) (tree-told (g .valid) (g .represents) (k .tells));
       words = climbed (g .valid) (g .represents) (k .tells);
       sets = λ s w p a T o i j m. sets-up (g .valid) (g .represents) (k .tells) s w p i j m a T o;
     }
+
+pub audits-height : AuditsHeight
+unfolding AuditsHeight
+audits-height S sh d l p = reached (begin S) (tree-listed S sh d l p)

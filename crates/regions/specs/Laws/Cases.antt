@@ -37,7 +37,7 @@ cases =
     ∷ (3, 5, 6, 0)
     ∷ (3, 4, 5, 0)
     ∷ (3, 5, 1, 0)
-    -- in the ring: level_not_lowered would climb for ever
+    -- in the ring: the other region is met, and for one outside level_not_lowered would climb for ever
     ∷ (3, 7, 8, 1)
     ∷ (3, 7, 6, 0)
     -- forever_in_its_own_region
