@@ -1,6 +1,5 @@
 -- The audit's tests hold exactly if Sound does, proved.
 pub mod State
-pub mod Tree
 pub mod Heap
 pub mod Counts
 pub mod Exact

@@ -7,4 +7,5 @@ pub mod Sized
 pub mod Bounded
 pub mod Values
 pub mod Begin
+pub mod Tree
 pub mod Pointers

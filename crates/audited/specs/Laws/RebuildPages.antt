@@ -19,12 +19,13 @@ use Rattle.outcomes.specs.Store.{Store, kinds, regions, pages}
 use Rattle.outcomes.specs.Sound.{Sound, filled, newestOwn}
 use Rattle.outcomes.specs.Shape.{Sized}
 use Rattle.outcomes.specs.Laws.Begin.{holderOf, pages-held, pages-filled}
+use Rattle.outcomes.specs.Laws.Tree.{each-used}
 use Rattle.refinement.specs.Represents.{RoomAgrees, PagesAgree}
 use Rattle.audited.specs.Rebuild.{roomAt, readRegion, rebuilt}
 use Rattle.audited.specs.Laws.RebuildWalk.{stacked-sum}
 use Rattle.audited.specs.Laws.RebuildObjects.{wordsAt, on-stacked}
 use Rattle.audited.specs.Laws.RebuildStack.{within-is}
-use Rattle.audited.specs.Laws.RebuildRegions.{each-entry, live-name, tag-name, read}
+use Rattle.audited.specs.Laws.RebuildRegions.{live-name, tag-name, read}
 
 module _ (S : Store) (sh : Sized S) (so : Sound S) where
   pages-some : (1 ≤ (pages S) .made) × ((pages S) .made ≤ 256)
@@ -53,7 +54,7 @@ module _ (S : Store) (sh : Sized S) (so : Sound S) where
 
   room-agrees : (i t : ℕ) → nameAt (regions S) i ≢ 0 → i + 1 ≡ t → RoomAgrees (roomAt S i) (pages S) t (newestAt (regions S) i)
   unfolding roomAt newestOwn
-  room-agrees i t h e = go (newestAt (regions S) i) (each-entry S sh (newestOwn S) (so .newest) i h)
+  room-agrees i t h e = go (newestAt (regions S) i) (each-used S (sh .inRegions .names) (newestOwn S) (so .newest) i h)
     where
       go : (n : ℕ) → elim n [ zero ↦ true | suc j ↦ ltb j (pageCount (pages S)) && eqb (ownerAt (pages S) j) (i + 1) ] ≡ true
           → RoomAgrees (elim n [ zero ↦ 0 | suc j ↦ 64 - getD ((pages S) .taken) j 0 ]) (pages S) t n

@@ -3,26 +3,26 @@
 use mathlib.Core.Path.{_≡_, refl, sym, ap, _∙_, fun-ext}
 use mathlib.Core.Logic.{_≢_}
 use mathlib.Core.Bool.{Bool, true, false, not}
-use mathlib.Core.List.{map}
 use Prim.Native.Nat.{ℕ, zero, suc, _<_}
 use native.Mathlib.Numerals.{add-one}
 use lib.Dec.{eqb}
 use lib.ListN.{getD}
 use borrow.Author.Tests.{eqb-true, eqb-false, eq-eqb, ne-eqb, not-true}
-use Rattle.lists.specs.Lists.{pick, anyOf, every, keep, findOr, sumOf, countOf, All, upTo, times}
+use Rattle.lists.specs.Lists.{pick, anyOf, findOr, sumOf, All, upTo}
 use Rattle.lists.specs.Laws.All.{all-in, all-change}
 use Rattle.lists.specs.Laws.Sums.{sum-map, sum-keep}
-use Rattle.lists.specs.Laws.Finds.{any-map, any-keep, find-keep, every-true}
+use Rattle.lists.specs.Laws.Finds.{any-map, any-keep, find-keep}
 use Rattle.lists.specs.Laws.UpTo.{any-one}
-use Rattle.lists.specs.Laws.Kept.{any-index, find-changed, kept-each, each-kept}
+use Rattle.lists.specs.Laws.Kept.{any-index, find-changed, each-kept}
 use Rattle.model.specs.Model.{Region, noRegion, region, called, livesIn}
 use Rattle.regions.specs.declared.Regions.{Regions}
 use Rattle.regions.specs.Regions.{nameAt, nameOf, entryOf, tagOf, entryIn, nameIn}
 use Rattle.outcomes.specs.Store.{Store, regions}
 use Rattle.outcomes.specs.History.{entries}
-use Rattle.outcomes.specs.Sound.{soundDistinct, Sound}
+use Rattle.outcomes.specs.Sound.{Sound}
 use Rattle.outcomes.specs.Shape.{Sized}
-use Rattle.outcomes.specs.Laws.Begin.{used-below, name-times, entry-is}
+use Rattle.outcomes.specs.Laws.Begin.{used-below, entry-is}
+use Rattle.outcomes.specs.Laws.Tree.{few}
 use Rattle.audited.specs.Rebuild.{readRegion, rebuilt}
 
 -- ---- any memory
@@ -49,11 +49,6 @@ entries-by S f = sum-keep (λ i. f (nameAt (regions S) i)) (used (regions S)) (u
 module _ (S : Store) (sh : Sized S) where
   below : (i : ℕ) → nameAt (regions S) i ≢ 0 → i < 64
   below = used-below S (sh .inRegions .names)
-
-  -- what a test over the entries says of each
-  pub each-entry : (f : ℕ → Bool) → every f (entries S) ≡ true → (i : ℕ) → nameAt (regions S) i ≢ 0 → f i ≡ true
-  unfolding entries
-  each-entry f e i h = kept-each (λ i. f i ≡ true) (used (regions S)) 64 (every-true f (keep (used (regions S)) (upTo 64)) e) i (below i h) (is-used (regions S) i h)
 
   -- what holds of each entry in use holds of the regions read there
   pub all-regions : (P : Region → Type 0) → ((i : ℕ) → nameAt (regions S) i ≢ 0 → P (readRegion S i)) → All P ((rebuilt S) .regions)
@@ -91,15 +86,11 @@ module _ (S : Store) (sh : Sized S) where
   unfolding rebuilt readRegion
   rows f = sym (entries-by S f) ∙ sym (sum-map (λ g. f (g .name)) (readRegion S) (entries S))
 
-  -- where names are distinct, an entry's name is no other's
-  pub few : soundDistinct S ≡ true → (i : ℕ) → nameAt (regions S) i ≢ 0 → countOf (λ k. eqb (nameAt (regions S) k) (nameAt (regions S) i)) (upTo 64) ≡ 1
-  few d i h = sym (name-times S (nameAt (regions S) i) h) ∙ eqb-true (times (nameAt (regions S) i) (map (nameAt (regions S)) (entries S))) 1 (each-entry _ d i h)
-
   -- ---- audited memory
 
   module _ (so : Sound S) where
     entry-used : (i : ℕ) → nameAt (regions S) i ≢ 0 → entryOf (regions S) (nameAt (regions S) i) ≡ i
-    entry-used = entry-is S (sh .inRegions .names) (few (so .distinct))
+    entry-used = entry-is S (sh .inRegions .names) (few S (sh .inRegions .names) (so .distinct))
 
     find-used : (i : ℕ) → nameAt (regions S) i ≢ 0 → findOr (λ k. eqb (nameAt (regions S) k) (nameAt (regions S) i)) 64 (upTo 64) ≡ i
     unfolding entryOf entryIn nameAt

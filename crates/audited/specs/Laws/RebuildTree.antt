@@ -1,16 +1,15 @@
 -- The regions of the model that an audited memory lists are valid and agree with their entries.
 -- Assumes nothing.
 use mathlib.Core.Path.{_≡_, refl, sym, ap, _∙_}
-use mathlib.Core.Logic.{_≢_, _⊎_, inl, inr}
-use mathlib.Core.Bool.{Bool, true, false, not, _&&_, _||_}
+use mathlib.Core.Logic.{_≢_, inl, inr}
+use mathlib.Core.Bool.{Bool, true, false, _||_}
 use mathlib.Core.List.{List, [], _∷_, map}
-use Prim.Native.Nat.{ℕ, zero, suc, _+_, _≤_}
+use Prim.Native.Nat.{ℕ, suc, _+_, _≤_}
 use native.Mathlib.Omega.{arith}
 use lib.Dec.{eqb, leb}
 use lib.ListN.{length, length-map}
-use borrow.Author.Tests.{eqb-true, eqb-false, eq-eqb, ne-eqb, le-ltb, leb-true, not-true}
+use borrow.Author.Tests.{eqb-true, eq-eqb, ne-eqb, le-ltb, leb-true}
 use Rattle.lists.specs.Lists.{bit, All, countOf, times}
-use Rattle.lists.specs.Laws.Tests.{both}
 use Rattle.lists.specs.Laws.All.{all-map, all-change}
 use Rattle.lists.specs.Laws.Sums.{sum-map}
 use Rattle.lists.specs.Laws.Finds.{any-map, any-count, every-true}
@@ -21,13 +20,14 @@ use Rattle.model.specs.Laws.Regions.{live-zero, level-is}
 use Rattle.regions.specs.Regions.{nameAt, nameOf, entryOf, parentAt, levelAt, oldestAt, nameIn}
 use Rattle.outcomes.specs.Store.{Store, regions}
 use Rattle.outcomes.specs.History.{begin, entries, leads, homeOf}
-use Rattle.outcomes.specs.Sound.{soundParents, Sound, placed, oldestOwn}
+use Rattle.outcomes.specs.Sound.{Sound, oldestOwn}
 use Rattle.outcomes.specs.Shape.{Sized}
+use Rattle.outcomes.specs.Laws.Tree.{Place, each-used, entry-above}
 use Rattle.refinement.specs.Represents.{tagFor, RegionsAgree}
 use Rattle.audited.specs.Rebuild.{places, readRegion, rebuilt}
 use Rattle.refinement.specs.Laws.Tags.{for-some}
 use Rattle.audited.specs.Laws.RebuildIds.{home-leads, known}
-use Rattle.audited.specs.Laws.RebuildRegions.{used, each-entry, all-regions, live-used, rows, region-used, tag-name, Read, read}
+use Rattle.audited.specs.Laws.RebuildRegions.{used, all-regions, live-used, rows, region-used, tag-name, Read, read}
 
 distinct-few : (gs : List Region) → All (λ g. countOf (called (g .name)) gs ≤ 1) gs → Distinct gs
 distinct-few [] h = tt
@@ -39,44 +39,9 @@ distinct-few (g ∷ gs) h = (none, distinct-few gs (all-map (λ x k. omega (arit
         one : bit (eqb (g .name) (g .name)) ≡ 1
         one = rw (eq-eqb (g .name) (g .name) refl)
 
-module _ (S : Store) where
-  -- entry p is above entry i, and lives
-  pub record Below (i p : ℕ) : Type 0 where
-    pub parent : parentAt (regions S) i ≡ suc p
-    pub used : nameAt (regions S) p ≢ 0
-    pub level : levelAt (regions S) i ≡ levelAt (regions S) p + 1
-    pub other : nameAt (regions S) i ≢ 1
-
-  -- none is above entry i, or one that lives
-  abbrev pub Place : ℕ → Type 0
-  Place i = ((parentAt (regions S) i ≡ 0) × (levelAt (regions S) i ≡ 1)) ⊎ ((p : ℕ) × Below i p)
-
-  -- so where the clause on the regions above holds
-  pub entry-above : Sized S → soundParents S ≡ true → (i : ℕ) → nameAt (regions S) i ≢ 0 → Place i
-  unfolding placed
-  entry-above sh tree i h = go (parentAt (regions S) i) refl (each-entry S sh (placed S) tree i h)
-    where
-      go : (t : ℕ) → parentAt (regions S) i ≡ t → elim t [
-        | zero ↦ eqb (levelAt (regions S) i) 1
-        | suc p ↦ not (eqb (nameAt (regions S) p) 0) && eqb (levelAt (regions S) i) (levelAt (regions S) p + 1) && not (eqb (nameAt (regions S) i) 1)
-      ] ≡ true → Place i
-      go zero q e = inl (q, eqb-true (levelAt (regions S) i) 1 e)
-      go (suc p) q e =
-          let t = both _ (not (eqb (nameAt (regions S) i) 1)) e in
-          let u = both (not (eqb (nameAt (regions S) p) 0)) (eqb (levelAt (regions S) i) (levelAt (regions S) p + 1)) (t .0) in
-          inr (
-            p,
-            record {
-              parent = q;
-              used = eqb-false (nameAt (regions S) p) 0 (not-true (eqb (nameAt (regions S) p) 0) (u .0));
-              level = eqb-true (levelAt (regions S) i) (levelAt (regions S) p + 1) (u .1);
-              other = eqb-false (nameAt (regions S) i) 1 (not-true (eqb (nameAt (regions S) i) 1) (t .1));
-            },
-          )
-
 module _ (S : Store) (sh : Sized S) (so : Sound S) where
   above : (i : ℕ) → nameAt (regions S) i ≢ 0 → Place S i
-  above = entry-above S sh (so .parents)
+  above = entry-above S (sh .inRegions .names) (so .parents)
 
   -- the name above, and its tag
   name-above : (i : ℕ) → nameAt (regions S) i ≢ 0 → parentAt (regions S) i ≡ tagFor (regions S) (nameOf (regions S) (parentAt (regions S) i))
@@ -90,7 +55,7 @@ module _ (S : Store) (sh : Sized S) (so : Sound S) where
   -- an entry's oldest object is none or leads to an object
   oldest-leads : (i : ℕ) → nameAt (regions S) i ≢ 0 → (eqb (oldestAt (regions S) i) 0 || leads (begin S) (oldestAt (regions S) i)) ≡ true
   unfolding oldestOwn
-  oldest-leads i h = go (eqb (oldestAt (regions S) i) 0) (each-entry S sh (oldestOwn S) (so .oldest) i h)
+  oldest-leads i h = go (eqb (oldestAt (regions S) i) 0) (each-used S (sh .inRegions .names) (oldestOwn S) (so .oldest) i h)
     where
       go : (b : Bool) → (b || eqb (homeOf (begin S) (oldestAt (regions S) i)) (nameAt (regions S) i)) ≡ true → (b || leads (begin S) (oldestAt (regions S) i)) ≡ true
       go true e = refl
@@ -119,7 +84,7 @@ module _ (S : Store) (sh : Sized S) (so : Sound S) where
   parent-valid i h = go (above i h)
     where
       deep : levelAt (regions S) i ≤ 16
-      deep = leb-true (levelAt (regions S) i) 16 (each-entry S sh (λ i. leb (levelAt (regions S) i) 16) (so .levels) i h)
+      deep = leb-true (levelAt (regions S) i) 16 (each-used S (sh .inRegions .names) (λ i. leb (levelAt (regions S) i) 16) (so .levels) i h)
 
       go : Place S i → ValidParent ((rebuilt S) .regions) (readRegion S i)
       go (inl e) = record { parent = rw (e .0); level = rw (e .0, e .1); deep = deep }
@@ -139,7 +104,7 @@ module _ (S : Store) (sh : Sized S) (so : Sound S) where
   unfolding readRegion oldestOwn
   oldest-valid = all-regions S sh (OwnOldest (homeIn (rebuilt S))) (λ i h.
       let k = known S sh (oldestAt (regions S) i) (oldest-leads i h) in
-      rw (k .null, k .home) (each-entry S sh (oldestOwn S) (so .oldest) i h))
+      rw (k .null, k .home) (each-used S (sh .inRegions .names) (oldestOwn S) (so .oldest) i h))
 
   entries-most : length (entries S) ≤ 64
   unfolding entries
@@ -174,7 +139,7 @@ module _ (S : Store) (sh : Sized S) (so : Sound S) where
       sum-map (λ g. bit (eqb (g .name) (nameAt (regions S) i))) (readRegion S) (entries S),
     )) (entries S) (every-true _ (entries S) (so .distinct)));
     named = named;
-    namesGiven = all-regions S sh (λ g. g .name ≤ (regions S) .given) (λ i h. leb-true (nameAt (regions S) i) ((regions S) .given) (each-entry S sh _ (so .namesGiven) i h));
+    namesGiven = all-regions S sh (λ g. g .name ≤ (regions S) .given) (λ i h. leb-true (nameAt (regions S) i) ((regions S) .given) (each-used S (sh .inRegions .names) _ (so .namesGiven) i h));
     lastGiven = leb-true ((regions S) .given) 1000000 (so .given);
     permanent = one-lives;
     root = root;

@@ -6,21 +6,19 @@ use mathlib.Core.Bool.{Bool, true, _&&_}
 use mathlib.Core.List.{List, [], _∷_}
 use Prim.Native.Nat.{ℕ, _<_}
 use lib.ListN.{length, getD}
-use borrow.Author.Tests.{eqb-true}
 use Rattle.lists.specs.Laws.Tests.{both, by-test}
 use Rattle.regions.specs.Regions.{nameAt, countAt}
 use Rattle.regions.specs.Laws.Counts.{Counts}
 use Rattle.outcomes.specs.Store.{Store, regions}
 use Rattle.outcomes.specs.Sound.{sound, Sound, newestOwn, oldestOwn}
 use Rattle.outcomes.specs.Laws.Decided.{sound-is, is-sound}
-use Rattle.outcomes.specs.Laws.Begin.{every-entry, used-below}
+use Rattle.outcomes.specs.Laws.Begin.{every-entry, each-entry}
+use Rattle.outcomes.specs.Laws.Tree.{Tree, few, tree}
 use Rattle.outcomes.specs.Laws.Pointers.{Ordered}
-use Rattle.audit_regions.specs.Filed.{namesakes}
 use Rattle.audit_state.specs.Fits.{stateFits}
 use Rattle.audit_slots.specs.Leads.{entryOwns, entriesOwn}
 use Rattle.calls_audit.specs.Passes.{heapFits, passesIn, passes}
-use Rattle.calls_audit.specs.Laws.State.{folded-true, each-entry, entry-each, widths-same, state-passes, numbers, sizes, marks, widths, region, levels, distinct, namesGiven, permanent, parents}
-use Rattle.calls_audit.specs.Laws.Tree.{tree}
+use Rattle.calls_audit.specs.Laws.State.{folded-true, entry-each, widths-same, state-passes, numbers, sizes, marks, widths, levels, distinct, namesGiven, permanent, parents}
 use Rattle.calls_audit.specs.Laws.Heap.{pagesPass, newestPasses, oldestPasses, entriesPass, slotsPass, wordsPass, pages-pass, owned, held, filling, newest-same, oldest-same, slots-same, words-same}
 use Rattle.calls_audit.specs.Laws.Counts.{countsPass, counts-same}
 
@@ -35,8 +33,10 @@ module _ (S : Store) (names : length ((regions S) .names) ≡ 64) (cs : List ℕ
   all-tests = refl
 
   ordered : statePasses ≡ true → pagesPass S ≡ true → Ordered S
-  unfolding namesakes nameAt
-  ordered a b = record { names = names; few = λ i n. eqb-true _ 1 (region S a i (used-below S names i n) n .alone); owned = owned S names b }
+  ordered a b = record { names = names; few = few S names (distinct S a); owned = owned S names b }
+
+  grown : statePasses ≡ true → Tree S
+  grown a = tree S names (levels S a) (parents S a)
 
   abbrev own : ℕ → Bool
   own i = newestPasses S i && oldestPasses S i
@@ -60,7 +60,7 @@ module _ (S : Store) (names : length ((regions S) .names) ≡ 64) (cs : List ℕ
       let b = pages-pass S names h in
       let o = ordered a b in
       let f = sym (slots-same S o) ∙ h .slots in
-      let w = sym (words-same S o (tree S names a)) ∙ h .words in
+      let w = sym (words-same S o (grown a)) ∙ h .words in
       all-tests ∙ rw (a, b, same-own o h, f, w) (sym (counts-same S (h .standing) (h .counted) (sym (widths-same S) ∙ h .widths) o cs fits kept f w) ∙ h .counts)
 
   passes-sound : passes cs (S .state) (S .heap) ≡ true → Sound S
@@ -76,7 +76,7 @@ module _ (S : Store) (names : length ((regions S) .names) ≡ 64) (cs : List ℕ
       record {
         counts = counts-same S (n .standing) (n .counted) (sym (widths-same S) ∙ widths S a) o cs fits kept f w ∙ all .1 .1 .0;
         slots = slots-same S o ∙ f;
-        words = words-same S o (tree S names a) ∙ w;
+        words = words-same S o (grown a) ∙ w;
         held = held S names b;
         made = n .made;
         declared = n .declared;

@@ -30,12 +30,12 @@ use Rattle.outcomes.specs.Store.{Store, frames, kinds, regions, pages}
 use Rattle.outcomes.specs.History.{Object, begin, listedHeld, pointersOf, leads, homeOf, aboveOf, slotsLead, wordsLead, pagesHeld}
 use Rattle.outcomes.specs.Sound.{Sound, filled, newestOwn, oldestOwn}
 use Rattle.outcomes.specs.Laws.Begin.{holderOf, headersOf, headers, objectAt, holding, begin-objects, page-of, leads-among, pages-held, pages-filled, home-none}
+use Rattle.outcomes.specs.Laws.Tree.{Tree, above-same}
 use Rattle.outcomes.specs.Laws.Pointers.{Ordered, valueAt, every-slot, every-pointer, home-name, home-tag}
 use Rattle.audit_heap.specs.Heap.{headersIn, filledTo, pageFits, pagesFit, headersHeld, allHeaders, ticked, headAt}
 use Rattle.audit_slots.specs.Leads.{newestFits, oldestFits, entriesOwn, known, frameLeads, framesLead}
 use Rattle.audit_heap.specs.Laws.Ticks.{blank-ticked}
 use Rattle.audit_words.specs.Words.{wordHolds, objectHolds, objectsHold, pageHolds, pagesHold}
-use Rattle.calls_audit.specs.Laws.Tree.{Tree, above-same}
 
 module _ (S : Store) where
   -- ---- the tests over lists, of those of S
@@ -228,7 +228,7 @@ module _ (S : Store) where
           let z = ne-eqb (holderOf S j) 0 n in
           let hs = headersOn (kinds S) (S .heap) (pages S) j in
           rw (e, z)
-          (every-same (λ q. test (objectAt S q)) (objectPasses t) hs (all-map (λ q i. rw (← i) (object-same q (rw i (above-same S h tree t n)))) hs (rw z at (page-of S j)))))
+          (every-same (λ q. test (objectAt S q)) (objectPasses t) hs (all-map (λ q i. rw (← i) (object-same q (rw i (above-same S (h .names) (h .few) tree t n)))) hs (rw z at (page-of S j)))))
 
       pub words-same : wordsLead (begin S) S ≡ wordsPass
       unfolding wordsLead pagesHold pageCount

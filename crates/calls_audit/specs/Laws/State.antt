@@ -20,7 +20,7 @@ use Rattle.regions.specs.Regions.{nameAt, parentAt, levelAt, entryOf, isLive}
 use Rattle.outcomes.specs.Store.{Store, frames, kinds, regions, pages}
 use Rattle.outcomes.specs.History.{entries, listedKinds, listedFrames}
 use Rattle.outcomes.specs.Sound.{Sound, within, placed}
-use Rattle.outcomes.specs.Laws.Begin.{every-entry, name-times, one-lives}
+use Rattle.outcomes.specs.Laws.Begin.{every-entry, each-entry, name-times, one-lives}
 use Rattle.audit_regions.specs.Filed.{placedAt, namesakes, regionFits, entryFits, regionsFit}
 use Rattle.audit_state.specs.Fits.{numbersFit, marksFit, kindFits, kindsFit, widthsFit, stateFitsIn, stateFits}
 
@@ -37,10 +37,7 @@ folded-true b (x ∷ xs) e =
     (q .0, (q .1, t .1))
 
 module _ (S : Store) where
-  -- a test over the entries is one of each entry in use
-  pub each-entry : (f : ℕ → Bool) → every f (entries S) ≡ true → (i : ℕ) → i < 64 → nameAt (regions S) i ≢ 0 → f i ≡ true
-  each-entry f e i l h = or-other (eqb (nameAt (regions S) i) 0) (f i) (every-each (λ i. eqb (nameAt (regions S) i) 0 || f i) 64 (sym (every-entry S f) ∙ e) i l) (ne-eqb (nameAt (regions S) i) 0 h)
-
+  -- a test that each entry in use passes is one that all do
   pub entry-each : (f : ℕ → Bool) → ((i : ℕ) → i < 64 → nameAt (regions S) i ≢ 0 → f i ≡ true) → every f (entries S) ≡ true
   entry-each f h = every-entry S f ∙ each-every (λ i. eqb (nameAt (regions S) i) 0 || f i) 64 (λ i l.
       by-test (eqb (nameAt (regions S) i) 0) (λ e. rw e) (λ e. or-right (eqb (nameAt (regions S) i) 0) (f i) (h i l (eqb-false (nameAt (regions S) i) 0 e))))
@@ -116,12 +113,12 @@ module _ (S : Store) where
     unfolding regionFits nameAt levelAt
     region-passes i l n =
         rw (
-          each-entry (λ i. leb (nameAt (regions S) i) ((regions S) .given)) (h .namesGiven) i l n,
+          each-entry S (λ i. leb (nameAt (regions S) i) ((regions S) .given)) (h .namesGiven) i l n,
           ← names-same i n,
-          each-entry (λ i. eqb (times (nameAt (regions S) i) (map (nameAt (regions S)) (entries S))) 1) (h .distinct) i l n,
-          each-entry (λ i. leb (levelAt (regions S) i) 16) (h .levels) i l n,
+          each-entry S (λ i. eqb (times (nameAt (regions S) i) (map (nameAt (regions S)) (entries S))) 1) (h .distinct) i l n,
+          each-entry S (λ i. leb (levelAt (regions S) i) 16) (h .levels) i l n,
         )
-        (sym (placed-same i) ∙ each-entry (placed S) (h .parents) i l n)
+        (sym (placed-same i) ∙ each-entry S (placed S) (h .parents) i l n)
 
     regions-pass : regionsPass ≡ true
     unfolding regionsFit entryFits nameAt isLive entryOf

@@ -5,6 +5,7 @@ use mathlib.Core.Logic.{_↔_, _≢_, _⊎_, inl, inr, ⊎-elim}
 use mathlib.Core.Bool.{true, false, not, _&&_, _||_, true≢false, false≢true}
 use mathlib.Core.List.{List, [], map}
 use Prim.Native.Nat.{ℕ, zero, suc, _+_, _-_, _≤_, _<_}
+use native.Mathlib.Numerals.{add-one}
 use native.Mathlib.Omega.{arith}
 use lib.Dec.{eqb, leb}
 use lib.ListN.{length, getD, length-map, List·getD-map, List·getD-eq-default}
@@ -21,13 +22,15 @@ use Rattle.model.specs.Laws.Regions.{live-zero}
 use Rattle.model.specs.Laws.Slots.{Known, slot-lives}
 use Rattle.model.specs.Laws.Climb.{climb-top, parent-lives, level-some, level-deep, level-falls}
 use Rattle.regions.specs.declared.Regions.{Regions}
-use Rattle.regions.specs.Regions.{nameAt, nameOf, nameIn, entryOf, parentAt, levelAt}
+use Rattle.regions.specs.Regions.{nameAt, nameOf, nameIn, entryOf, tagOf, upIn, levelIn}
+use Rattle.regions.specs.Laws.Entries.{name-none}
 use Rattle.outcomes.specs.Store.{Store, regions, slot}
 use Rattle.outcomes.specs.History.{History, Object, Word, begin, parentOf, aboveOf, isLive, pointersOf, at, leads, homeOf, wordsLead}
 use Rattle.outcomes.specs.Sound.{soundLevels, soundDistinct, soundParents}
 use Rattle.outcomes.specs.Shape.{Sized}
 use Rattle.outcomes.specs.Outcome.{Outcome}
-use Rattle.outcomes.specs.Laws.Begin.{entry-is, parent-is as parent-listed}
+use Rattle.outcomes.specs.Laws.Begin.{entry-is}
+use Rattle.outcomes.specs.Laws.Tree.{few, tree, parent-tag}
 use Rattle.promises.specs.Promises.{Refusals}
 use Rattle.promises.specs.Laws.Refused.{refusals}
 use Rattle.refinement.specs.Represents.{Represents, spot}
@@ -36,8 +39,7 @@ use Rattle.refinement.specs.Laws.Refusals.{refusals-agree}
 use Rattle.histories.specs.Laws.Tells.{Tells, listed, live-is, parent-is, above-is, each-met, home-is, kind-is}
 use Rattle.histories.specs.Laws.Pointers.{words-lead}
 use Rattle.audited.specs.Rebuild.{rebuilt}
-use Rattle.audited.specs.Laws.RebuildRegions.{each-entry, live-used, used-live, few}
-use Rattle.audited.specs.Laws.RebuildTree.{Below, Place, entry-above}
+use Rattle.audited.specs.Laws.RebuildRegions.{live-name, used-live}
 use Rattle.audited.specs.Laws.RebuildLaid.{begin-regions}
 use Rattle.demands.specs.Told.{history}
 use Rattle.demands.specs.Later.{steps, Reached, Reaches, markTold, topWidth, AnyHeight, AuditsHeight}
@@ -125,40 +127,43 @@ module _ (S : Store) (sh : Sized S) (d : soundDistinct S ≡ true) (l : soundLev
   live-same : (r : ℕ) → isLive (begin S) r ≡ livesIn (rebuilt S) r
   live-same r = ap (anyOf (λ g. eqb (g .name) r)) (begin-regions S) ∙ any-map (λ g. eqb (g .name) r) listed ((rebuilt S) .regions)
 
-  at-entry : (P : ℕ → Type 0) → ((i : ℕ) → nameAt g i ≢ 0 → P (nameAt g i)) → (r : ℕ) → isLive (begin S) r ≡ true → P r
-  at-entry P f r e = let t = used-live S sh r (sym (live-same r) ∙ e) in subst P (t .2) (f (t .0) (t .1))
+  abbrev names : length (g .names) ≡ 64
+  names = sh .inRegions .names
 
-  parent-at : (i : ℕ) → nameAt g i ≢ 0 → parentOf (begin S) (nameAt g i) ≡ nameOf g (parentAt g i)
-  parent-at = parent-listed S (sh .inRegions .names) (few S sh d)
-
-  level-at : (i : ℕ) → nameAt g i ≢ 0 → levelAt g (entryOf g (nameAt g i)) ≡ levelAt g i
-  level-at i n = ap (levelAt g) (entry-is S (sh .inRegions .names) (few S sh d) i n)
-
-  -- the entry above, where there is one
-  up : (i : ℕ) → nameAt g i ≢ 0 → parentOf (begin S) (nameAt g i) ≢ 0 → (q : ℕ) × (parentOf (begin S) (nameAt g i) ≡ nameAt g q) × Below S i q
+  -- so what holds of each tag in use holds of each live region
+  at-tag : (P : ℕ → Type 0) → ((t : ℕ) → nameOf g t ≢ 0 → P (nameOf g t)) → (r : ℕ) → isLive (begin S) r ≡ true → P r
   unfolding nameOf nameIn nameAt
-  up i n m = go (entry-above S sh p i n)
-    where
-      go : Place S i → (q : ℕ) × (parentOf (begin S) (nameAt g i) ≡ nameAt g q) × Below S i q
-      go (inl e) = absurd (m (parent-at i n ∙ ap (nameOf g) (e .0)))
-      go (inr (q, b)) = (q, parent-at i n ∙ ap (nameOf g) (b .parent), b)
+  at-tag P f r e = let t = used-live S sh r (sym (live-same r) ∙ e) in subst P (t .2) (f (suc (t .0)) (t .1))
 
-  level-one : (i : ℕ) → nameAt g i ≢ 0 → 1 ≤ levelAt g i
-  level-one i n = go (entry-above S sh p i n)
-    where
-      go : Place S i → 1 ≤ levelAt g i
-      go (inl e) = omega (arith, e .1)
-      go (inr (q, b)) = omega (arith, b .level)
+  parent-at : (t : ℕ) → nameOf g t ≢ 0 → parentOf (begin S) (nameOf g t) ≡ nameOf g (upIn (g .parents) t)
+  parent-at = parent-tag S names (few S names d)
+
+  -- a region's level, by its name and by its tag
+  abbrev depth : ℕ → ℕ
+  depth r = levelIn (g .levels) (tagOf g r)
+
+  depth-at : (t : ℕ) → nameOf g t ≢ 0 → depth (nameOf g t) ≡ levelIn (g .levels) t
+  unfolding nameOf nameIn nameAt tagOf
+  depth-at zero n = absurd (n refl)
+  depth-at (suc i) n = ap (levelIn (g .levels)) (add-one (entryOf g (nameAt g i)) ∙ ap suc (entry-is S names (few S names d) i n))
+
+  -- the tag above, where there is one
+  up-some : (t : ℕ) → nameOf g t ≢ 0 → parentOf (begin S) (nameOf g t) ≢ 0 → upIn (g .parents) t ≢ 0
+  up-some t n m z = m (parent-at t n ∙ ap (nameOf g) z ∙ name-none g)
 
   tree-listed : Tree (begin S)
-  tree-listed = record {
-    level = λ r. levelAt g (entryOf g r);
-    dead = by-test (isLive (begin S) 0) (λ e. absurd (at-entry (λ r. r ≢ 0) (λ i n. n) 0 e refl)) (λ e. e);
-    lives = at-entry (λ r. parentOf (begin S) r ≢ 0 → isLive (begin S) (parentOf (begin S) r) ≡ true) (λ i n m. let u = up i n m in rw (u .1) (live-same (nameAt g (u .0)) ∙ live-used S sh (u .0) (u .2 .used)));
-    falls = at-entry (λ r. parentOf (begin S) r ≢ 0 → levelAt g (entryOf g (parentOf (begin S) r)) < levelAt g (entryOf g r)) (λ i n m. let u = up i n m in rw (u .1, level-at (u .0) (u .2 .used), level-at i n) (omega (arith, u .2 .level)));
-    some = at-entry (λ r. 1 ≤ levelAt g (entryOf g r)) (λ i n. rw (level-at i n) (level-one i n));
-    deep = at-entry (λ r. levelAt g (entryOf g r) ≤ 16) (λ i n. rw (level-at i n) (leb-true (levelAt g i) 16 (each-entry S sh (λ i. leb (levelAt g i) 16) l i n)));
-  }
+  tree-listed =
+      let k = tree S names l p in
+      record {
+        level = depth;
+        dead = by-test (isLive (begin S) 0) (λ e. absurd (at-tag (λ r. r ≢ 0) (λ t n. n) 0 e refl)) (λ e. e);
+        lives = at-tag (λ r. parentOf (begin S) r ≢ 0 → isLive (begin S) (parentOf (begin S) r) ≡ true) (λ t n m.
+            rw (parent-at t n) (live-same _ ∙ live-name S sh (upIn (g .parents) t) (k .lives t n (up-some t n m))));
+        falls = at-tag (λ r. parentOf (begin S) r ≢ 0 → depth (parentOf (begin S) r) < depth r) (λ t n m.
+            let u = up-some t n m in rw (parent-at t n, depth-at (upIn (g .parents) t) (k .lives t n u), depth-at t n) (k .falls t n u));
+        some = at-tag (λ r. 1 ≤ depth r) (λ t n. rw (depth-at t n) (k .some t n));
+        deep = at-tag (λ r. depth r ≤ 16) (λ t n. rw (depth-at t n) (k .deep t n));
+      }
 
 -- ---- a history that tells of a valid model, and the store that represents it
 

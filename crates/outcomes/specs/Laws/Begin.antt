@@ -11,11 +11,11 @@ use lib.Dec.{eqb, ltb, leb, eqb·zero-suc, eqb·suc-suc}
 use lib.ListN.{length, getD, length-map, List·getD-eq-default}
 use borrow.Author.Tests.{eqb-true, eqb-false, eq-eqb, ne-eqb, ltb-true, ltb-false, lt-ltb, le-ltb, leb-true, not-true}
 use Rattle.lists.specs.Lists.{bit, pick, anyOf, every, keep, findOr, countOf, All, joined, upTo, times, among}
-use Rattle.lists.specs.Laws.Tests.{both, by-test, by-same, pick-same}
+use Rattle.lists.specs.Laws.Tests.{both, or-other, by-test, by-same, pick-same}
 use Rattle.lists.specs.Laws.All.{all-map, all-change}
 use Rattle.lists.specs.Laws.Sums.{sum-map, sum-keep, length-keep}
 use Rattle.lists.specs.Laws.Finds.{any-map, any-keep, find-keep, find-none, find-passes, all-found, all-keep, false-any, true-every, times-keep}
-use Rattle.lists.specs.Laws.UpTo.{all-upTo, any-one, sum-below, find-found, find-first}
+use Rattle.lists.specs.Laws.UpTo.{all-upTo, every-each, any-one, sum-below, find-found, find-first}
 use Rattle.lists.specs.Laws.Kept.{map-same, joined-same, joined-kept, map-joined, all-each, find-changed, sum-single, sum-two}
 use Rattle.lists.specs.Laws.Every.{every-map, every-keep, every-below}
 use Rattle.kinds.specs.declared.Kinds.{Kinds}
@@ -137,6 +137,10 @@ module _ (S : Store) where
   pub every-entry : (f : ℕ → Bool) → every f (entries S) ≡ every (λ i. eqb (nameAt (regions S) i) 0 || f i) (upTo 64)
   unfolding entries
   every-entry f = every-keep f (λ i. eqb (nameAt (regions S) i) 0) (upTo 64)
+
+  -- such a test says something of each entry in use
+  pub each-entry : (f : ℕ → Bool) → every f (entries S) ≡ true → (i : ℕ) → i < 64 → nameAt (regions S) i ≢ 0 → f i ≡ true
+  each-entry f e i l h = or-other (eqb (nameAt (regions S) i) 0) (f i) (every-each (λ i. eqb (nameAt (regions S) i) 0 || f i) 64 (sym (every-entry f) ∙ e) i l) (ne-eqb (nameAt (regions S) i) 0 h)
 
   abbrev named : ℕ → ℕ → Bool
   named r i = eqb (nameAt (regions S) i) r
