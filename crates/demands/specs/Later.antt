@@ -1,18 +1,20 @@
--- What document 02's cards promise beside the demands, after every list of calls from every start. Each is a type; the theorems are in Laws.Later.
+-- What document 02's cards promise beside the demands, most of it after every list of calls from every start. Each is a type; the theorems are in Laws.Later.
 -- Assumes nothing.
 use mathlib.Core.Path.{_≡_}
 use mathlib.Core.Logic.{_↔_, _≢_, _⊎_}
-use mathlib.Core.Bool.{true}
-use mathlib.Core.List.{List}
-use Prim.Native.Nat.{ℕ, zero, suc, _-_, _<_}
+use mathlib.Core.Bool.{Bool, true, false, not, _&&_, _||_}
+use mathlib.Core.List.{List, [], _∷_}
+use Prim.Native.Nat.{ℕ, zero, suc, _-_, _≤_, _<_}
+use lib.Dec.{eqb}
 use lib.ListN.{length, getD}
-use Rattle.lists.specs.Lists.{findOr, All}
-use Rattle.model.specs.Model.{Answer, setPointer, marks, rule}
-use Rattle.outcomes.specs.Store.{Store, slot}
+use Rattle.lists.specs.Lists.{bit, every, findOr, All, times}
+use Rattle.model.specs.Model.{Answer, setPointer, delete, deleteAll, marks, rule}
+use Rattle.regions.specs.Regions.{parentAt, entryOf, tagOf, subregionsOf}
+use Rattle.outcomes.specs.Store.{Store, regions, slot}
 use Rattle.outcomes.specs.History.{History, begin, isLive, parentOf, aboveOf, pointersOf, at, homeOf}
 use Rattle.outcomes.specs.Sound.{soundLevels, soundDistinct, soundParents}
-use Rattle.outcomes.specs.Shape.{Sized}
-use Rattle.outcomes.specs.Outcome.{Outcome}
+use Rattle.outcomes.specs.Shape.{Sized, Shaped}
+use Rattle.outcomes.specs.Outcome.{Outcome, badLength, dead}
 use Rattle.outcomes.specs.Runs.{Event, Run}
 use Rattle.demands.specs.Told.{history}
 use Rattle.demands.specs.Demands.{Start}
@@ -58,3 +60,34 @@ AnyHeight = (S : Store) (h : History) → Start S h → (es : List Event) (T : S
 -- The audit's clause on words, on every memory, also one that it rejects for something else: where the clauses on names, levels and regions above hold, mark 3 has just that reach in what the memory lists
 unfoldable pub AuditsHeight : Type 0
 AuditsHeight = (S : Store) → Sized S → soundDistinct S ≡ true → soundLevels S ≡ true → soundParents S ≡ true → Reaches (begin S)
+
+-- ---- Card 2: regions deleted together
+
+-- every word marked 1 of a live object of region r is null
+unfoldable pub freeWordsNull : History → Store → ℕ → Bool
+freeWordsNull h S r = every (λ o. not (eqb (o .home) r) || every (λ w. not (eqb (w .mark) 1) || eqb (w .value) 0) (pointersOf h S o)) (h .objects)
+
+-- After every list of calls from every start: with no frame standing, and all free words of region 1 null, all other live regions, where they are 1 to 16, go together.
+-- The list has each of them once, in any order, and no other name
+unfoldable pub AllTogether : Type 0
+AllTogether =
+    (S : Store) (h : History) → Start S h → (es : List Event) (T : Store) → Run S es T
+    → (history h es) .frames ≡ [] → freeWordsNull (history h es) T 1 ≡ true
+    → (l : List ℕ) → 1 ≤ length l → length l ≤ 16 → ((r : ℕ) → times r l ≡ bit (isLive (history h es) r && not (eqb r 1)))
+    → (a : Answer) (U : Store) → Outcome (deleteAll l) T a U → a .refusal ≡ 0
+
+-- a list of one name has just the outcomes of delete
+abbrev pub SameAsDelete : Store → ℕ → Type 0
+SameAsDelete S r = (a : Answer) (T : Store) → Outcome (deleteAll (r ∷ [])) S a T ↔ Outcome (delete r) S a T
+
+-- region r, where delete gets as far as its subregions, is entered as its own region above and has no other subregion. Delete finds a subregion, and a list of one finds a member
+abbrev pub OnlyItself : Store → ℕ → Type 0
+OnlyItself S r =
+    let g = regions S in
+    (badLength S ≡ false) × (dead S r ≡ false) × (r ≢ 1) × (parentAt g (entryOf g r) ≡ tagOf g r) × (subregionsOf g (tagOf g r) ≡ 1)
+
+-- so on every memory of the language's types but those; and after every list of calls from every start, of every name
+unfoldable pub JointOfOne : Type 0
+JointOfOne =
+    ((S : Store) → Shaped S → (r : ℕ) → SameAsDelete S r ↔ (OnlyItself S r → ⊥))
+    × ((S : Store) (h : History) → Start S h → (es : List Event) (T : Store) → Run S es T → (r : ℕ) → SameAsDelete T r)

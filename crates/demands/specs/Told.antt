@@ -7,7 +7,7 @@ use Prim.Native.Nat.{ℕ, zero, suc, _-_, _/_}
 use lib.Dec.{eqb, ltb, leb}
 use lib.ListN.{length, getD, take}
 use Rattle.lists.specs.Lists.{pick, every, keep, joined, upTo, among}
-use Rattle.model.specs.Model.{Call, declare, newRegion, subregion, push, dropFrame, handBack, allocate, first, copy, fetch, clear, load, setPointer, put, get, view, same, about, report, totals, audit, delete}
+use Rattle.model.specs.Model.{Call, declare, newRegion, subregion, push, dropFrame, handBack, allocate, first, copy, fetch, clear, load, setPointer, put, get, view, same, about, report, totals, audit, delete, deleteAll}
 use Rattle.frames.specs.Frames.{slotAt}
 use Rattle.outcomes.specs.Store.{Store, frames}
 use Rattle.outcomes.specs.History.{History, holders}
@@ -70,7 +70,7 @@ objectMade h r k (suc p) = record {
 abbrev pub pagesHeldBy : History → ℕ → List ℕ
 pagesHeldBy h r = map (λ t. t .page) (keep (λ t. eqb (t .region) r) (h .held))
 
--- the regions that rs names go with their objects; those of their pages that no other region holds are free; m is raised (document 01, Delete)
+-- the regions that rs names go with their objects; those of their pages that no other region holds are free; m is raised (document 01, Delete; document 02, card 2)
 unfoldable pub ended : History → List ℕ → History
 ended h rs = record {
   kinds = h .kinds;
@@ -111,6 +111,7 @@ told (report r) v T h = h
 told totals v T h = h
 told audit v T h = h
 told (delete r) v T h = ended h (r ∷ [])
+told (deleteAll rs) v T h = ended h rs
 
 abbrev pub noteBy : ℕ → Event → History → History
 noteBy zero e h = told (e .call) (e .answer .values) (e .left) h

@@ -87,3 +87,8 @@ times n l = countOf (λ x. eqb x n) l
 
 abbrev pub among : ℕ → List ℕ → Bool
 among n l = anyOf (λ x. eqb x n) l
+
+-- some number stands twice
+abbrev pub repeats : List ℕ → Bool
+repeats [] = false
+repeats (n ∷ l) = among n l || repeats l

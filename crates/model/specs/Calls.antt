@@ -5,9 +5,9 @@ use mathlib.Core.List.{List, [], _∷_, _++_, map}
 use Prim.Native.Nat.{ℕ, zero, suc, _+_, _-_, _%_}
 use lib.Dec.{eqb, ltb, leb}
 use lib.ListN.{length, getD, set, take, replicate}
-use Rattle.lists.specs.Lists.{bit, pick, anyOf, every, keep, sumOf, among}
-use Rattle.model.specs.Model.{Call, declare, newRegion, subregion, push, dropFrame, handBack, allocate, first, copy, fetch, clear, load, setPointer, put, get, view, same, about, report, totals, audit, delete}
-use Rattle.model.specs.Model.{Region, Object, Model, Answer, four, gives, refusedBy, called, region, marks, livesIn, homeIn, parentIn, topPlace, top, beneath, slot, inSlot, slotMarks, markAt, inFrames, fromObject, inWords, outside, stored, subregions, climb, allowed}
+use Rattle.lists.specs.Lists.{bit, pick, anyOf, every, keep, sumOf, joined, among, repeats}
+use Rattle.model.specs.Model.{Call, declare, newRegion, subregion, push, dropFrame, handBack, allocate, first, copy, fetch, clear, load, setPointer, put, get, view, same, about, report, totals, audit, delete, deleteAll}
+use Rattle.model.specs.Model.{Region, Object, Model, Answer, four, gives, refusedBy, called, region, marks, livesIn, homeIn, parentIn, topPlace, top, beneath, slot, inSlot, slotMarks, markAt, inFrames, fromObject, inWords, outside, stored, subregions, closed, outsideBut, climb, allowed}
 
 -- ---- Refusals (document 01, The calls). 21 is not among them: each call of a session gets the store's own heap
 
@@ -49,7 +49,15 @@ size L k = length (marks (L .kinds) k) + 1
 abbrev pub fits : Region → ℕ → Bool
 fits g n = leb n (g .room)
 
--- the tests of each call, in document 01's order
+-- a list of names to delete together that is empty, longer than 16 or has a name twice, whether they live or not (document 02, card 2, on 22)
+unfoldable pub wrongNames : List ℕ → Bool
+wrongNames rs = eqb (length rs) 0 || ltb 16 (length rs) || repeats rs
+
+-- each name in turn, as the list has them: dead, then permanent (document 02, card 2, on 2 and 3)
+unfoldable pub nameTests : (ℕ → Bool) → List ℕ → List (Bool × ℕ)
+nameTests gone rs = joined (λ r. gone r yields 2 ∷ eqb r 1 yields 3 ∷ []) rs
+
+-- the tests of each call, in document 01's order, and in document 02's for its cards' calls
 unfoldable pub checks : Model → Call → List (Bool × ℕ)
 checks L (declare ms) = (eqb (length ms) 0 || ltb 16 (length ms) || anyOf (ltb 4) ms) yields 11 ∷ leb 16 (length (L .kinds)) yields 10 ∷ []
 checks L newRegion = leb 64 (length (L .regions)) yields 4 ∷ leb 1000000 (L .given) yields 5 ∷ []
@@ -77,6 +85,8 @@ checks L (report r) = dead L r yields 2 ∷ []
 checks L totals = []
 checks L audit = []
 checks L (delete r) = dead L r yields 2 ∷ eqb r 1 yields 3 ∷ not (eqb (subregions L r) 0) yields 18 ∷ not (eqb (outside L r) 0) yields 19 ∷ []
+checks L (deleteAll rs) =
+    wrongNames rs yields 22 ∷ nameTests (dead L) rs ++ (not (closed (L .regions) rs) yields 18 ∷ anyOf (λ r. not (eqb (outsideBut L rs r) 0)) rs yields 19 ∷ [])
 
 unfoldable pub refusal : Model → Call → ℕ
 refusal L c = reason (checks L c)
@@ -106,6 +116,7 @@ reply L (report r) = gives (stored L r ∷ outside L r ∷ (region (L .regions) 
 reply L totals = gives (L .free ∷ length (L .regions) ∷ length (L .frames) ∷ L .counted ∷ [])
 reply L audit = gives (1 ∷ [])
 reply L (delete r) = gives ((region (L .regions) r) .pages ∷ [])
+reply L (deleteAll rs) = gives (sumOf (λ r. (region (L .regions) r) .pages) rs ∷ [])
 
 -- ---- What an accepted call leaves
 
@@ -182,7 +193,7 @@ addObject L r k =
 abbrev pub others : List Region → List ℕ → List Region
 others gs rs = keep (λ g. not (among (g .name) rs)) gs
 
--- the regions that rs names go, their pages are free again, and all frames but the top one are counted (document 01, Delete)
+-- the regions that rs names go, their pages are free again, and all frames but the top one are counted (document 01, Delete; document 02, card 2)
 unfoldable pub removeRegions : Model → List ℕ → Model
 removeRegions L rs = record {
   free = L .free + sumOf (λ r. (region (L .regions) r) .pages) rs;
@@ -217,6 +228,7 @@ accepted L (report r) = L
 accepted L totals = L
 accepted L audit = L
 accepted L (delete r) = removeRegions L (r ∷ [])
+accepted L (deleteAll rs) = removeRegions L rs
 
 -- ---- Each call, and lists of calls. A refused call answers its number and changes nothing
 
@@ -236,7 +248,7 @@ next L c = nextBy (refusal L c) L c
 
 -- what a list of calls answers, and the model that it leaves
 unfoldable pub run : Model → List Call → List Answer
-unfolding answer next refusal checks reply accepted fillSlot popFrame writeWord addRegion addObject grown removeRegions outside stored inWords inFrames fromObject climb allowed
+unfolding answer next refusal checks wrongNames nameTests reply accepted fillSlot popFrame writeWord addRegion addObject grown removeRegions closed outside outsideBut stored inWords inFrames fromObject climb allowed
 run L [] = []
 run L (c ∷ cs) = answer L c ∷ run (next L c) cs
 

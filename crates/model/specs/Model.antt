@@ -6,7 +6,7 @@ use mathlib.Core.List.{List, [], _∷_}
 use Prim.Native.Nat.{ℕ, zero, suc, _+_, _-_}
 use lib.Dec.{eqb}
 use lib.ListN.{length, getD, take}
-use Rattle.lists.specs.Lists.{bit, pick, anyOf, findOr, sumOf, sumOf₂, countOf, among}
+use Rattle.lists.specs.Lists.{bit, pick, anyOf, findOr, sumOf, sumOf₂, countOf, every, among}
 
 -- A live region: the region directly above it (0: none), its pages, the words left in the newest one and its oldest object (0: none).
 pub record Region : Type 0 where
@@ -34,7 +34,7 @@ pub record Model : Type 0 where
   pub given : ℕ
   pub objects : List Object
 
--- The calls numbered 2 to 23, in that order, each with its arguments in document 01's order.
+-- The calls numbered 2 to 23, in that order, each with its arguments in document 01's order; then, numbered from 24 on, those of document 02's cards.
 pub data Call : Type 0 where
   declare : List ℕ → Call
   newRegion : Call
@@ -58,6 +58,7 @@ pub data Call : Type 0 where
   totals : Call
   audit : Call
   delete : ℕ → Call
+  deleteAll : List ℕ → Call
 
 -- What a call answers: the number of its refusal, 0 if accepted; four values, 0 where there is none; and the words that view hands back.
 pub record Answer : Type 0 where
@@ -176,6 +177,17 @@ stored L r = wordPointers L r + inFrames (homeIn L) r (take (L .counted) (L .fra
 -- the live regions directly below r
 abbrev pub subregions : Model → ℕ → ℕ
 subregions L r = countOf (λ g. eqb (g .parent) r) (L .regions)
+
+-- ---- Regions that are to go together, those that rs names (document 02, card 2)
+
+-- every live region directly below one of them is one of them
+unfoldable pub closed : List Region → List ℕ → Bool
+closed gs rs = every (λ g. not (among (g .parent) rs) || among (g .name) rs) gs
+
+-- the outside pointers of r but for the words of their own objects: slots of every frame, and words marked 1 of the other regions' objects
+unfoldable pub outsideBut : Model → List ℕ → ℕ → ℕ
+outsideBut L rs r =
+    sumOf (λ o. pick (among (o .home) rs) 0 (fromObject (livesIn L) (homeIn L) (L .kinds) r o)) (L .objects) + inFrames (homeIn L) r (L .frames)
 
 -- ---- Marks (document 01, The store; mark 3 as document 02, card 1, widens it)
 

@@ -6,7 +6,7 @@ use mathlib.Core.List.{List, map}
 use Prim.Native.Nat.{ℕ, suc, _+_}
 use lib.Dec.{eqb, leb}
 use lib.ListN.{length, getD}
-use Rattle.lists.specs.Lists.{pick, anyOf, every, keep, findOr, sumOf, countOf, joined, upTo, times}
+use Rattle.lists.specs.Lists.{pick, anyOf, every, keep, findOr, sumOf, countOf, joined, upTo, times, among}
 use Rattle.model.specs.Model.{marks, above, rule}
 use Rattle.frames.specs.Frames.{frameCount, widthAt, slotAt}
 use Rattle.kinds.specs.Kinds.{kindCount, sizeOf, markAt}
@@ -128,6 +128,15 @@ wordsLeadingTo h S r o = pick (eqb (o .home) r) 0 (countOf (λ w. eqb (w .mark) 
 
 unfoldable pub outside : History → Store → ℕ → ℕ
 outside h S r = sumOf (slotsLeadingTo h S r) (upTo (length (h .frames))) + sumOf (wordsLeadingTo h S r) (h .objects)
+
+-- of regions that are to go together, those that rs names (document 02, card 2): every live region directly below one of them is one of them;
+-- and the outside pointers of r but for the words of their own objects
+unfoldable pub closed : History → List ℕ → Bool
+closed h rs = every (λ g. not (among (g .parent) rs) || among (g .name) rs) (h .regions)
+
+unfoldable pub outsideBut : History → Store → List ℕ → ℕ → ℕ
+outsideBut h S rs r =
+    sumOf (slotsLeadingTo h S r) (upTo (length (h .frames))) + sumOf (λ o. pick (among (o .home) rs) 0 (wordsLeadingTo h S r o)) (h .objects)
 
 -- those in uncounted frames: all frames above the lowest m
 unfoldable pub uncountedInto : History → Store → ℕ → ℕ

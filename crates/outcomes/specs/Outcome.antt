@@ -3,26 +3,26 @@
 -- Assumes nothing.
 use mathlib.Core.Path.{_≡_}
 use mathlib.Core.Bool.{Bool, true, false, not, _&&_, _||_}
-use mathlib.Core.List.{List, [], _∷_, map}
+use mathlib.Core.List.{List, [], _∷_, _++_, map}
 use Prim.Native.Nat.{ℕ, zero, suc, _+_, _-_, _*_, _/_}
 use lib.Dec.{eqb, ltb, leb}
 use lib.ListN.{length, set, take, drop, replicate}
 use lib.Seq.{sets}
-use Rattle.lists.specs.Lists.{bit, pick, joined, from}
-use Rattle.model.specs.Model.{Answer, Call, declare, newRegion, subregion, push, dropFrame, handBack, allocate, first, copy, fetch, clear, load, setPointer, put, get, view, same, about, report, totals, audit, delete, four, gives, refusedBy}
-use Rattle.model.specs.Calls.{reason, _yields_, makes}
+use Rattle.lists.specs.Lists.{bit, pick, anyOf, sumOf, joined, from, among}
+use Rattle.model.specs.Model.{Answer, Call, declare, newRegion, subregion, push, dropFrame, handBack, allocate, first, copy, fetch, clear, load, setPointer, put, get, view, same, about, report, totals, audit, delete, deleteAll, four, gives, refusedBy}
+use Rattle.model.specs.Calls.{reason, _yields_, wrongNames, nameTests, makes}
 use Rattle.frames.specs.declared.Frames.{Frames}
 use Rattle.frames.specs.Frames.{frameCountIn, topFrame, widthAt, slotAt, putSlot, pushed, uncounts, popped, raised}
 use Rattle.kinds.specs.declared.Kinds.{Kinds}
 use Rattle.kinds.specs.Kinds.{kindCount, sizeOf, withKind, wrongMarks, allData as onlyData}
 use Rattle.regions.specs.declared.Regions.{Regions}
-use Rattle.regions.specs.Regions.{nameOf, entryOf, tagOf, isLive, liveCount, subregionsOf, levelAt, newestAt, oldestAt, countAt, unused, withRegion, withoutRegions, withPage, recount}
+use Rattle.regions.specs.Regions.{nameOf, entryOf, tagOf, isLive, liveCount, subregionsOf, closedIn, levelAt, newestAt, oldestAt, countAt, unused, withRegion, withoutRegions, withPage, recount}
 use Rattle.pages.specs.declared.Pages.{Pages}
 use Rattle.pages.specs.Pages.{wrongLength, takenAt, ownerOf, isFree, pagesOf, withTaken, freed}
 use Rattle.objects.specs.Objects.{kindOf, wordCount, markOf, wordAt, freeWordsOf, outOf}
 use Rattle.state.specs.declared.State.{State}
 use Rattle.state.specs.declared.Reply.{Reply}
-use Rattle.outcomes.specs.Store.{Store, frames, kinds, regions, pages, slot, outsideOf, ledInto, targetsIn, slotTargets, breaks, size, roomy}
+use Rattle.outcomes.specs.Store.{Store, frames, kinds, regions, pages, slot, outsideOf, ledInto, ledAmong, targetsIn, slotTargets, breaks, size, roomy}
 use Rattle.outcomes.specs.Sound.{sound}
 
 -- what a call gives back, and the part that view hands back ([] for every other call), as an answer of the reference model
@@ -71,6 +71,15 @@ isData S s w = eqb (markOf (kinds S) (S .heap) (slot S s) w) 0
 unfoldable pub allData : Store → ℕ → Bool
 allData S s = onlyData (kinds S) (kindOf (S .heap) (slot S s))
 
+-- the regions that the words marked 1 on the pages of the regions with the tags ts lead into, but for each region itself
+unfoldable pub outgoing : Store → List ℕ → List ℕ
+outgoing S ts = joined (λ t. outOf ((pages S) .owners) t (freeWordsOf (kinds S) (S .heap) (pages S) t)) ts
+
+-- the stored count of the region at entry i, once those words are counted no more: what is left of it leads there from slots of counted frames and from other regions
+-- (document 02, card 2, on 19)
+unfoldable pub countBut : Store → List ℕ → ℕ → ℕ
+countBut S ts i = countAt (recount (regions S) [] (outgoing S ts)) i
+
 unfoldable pub checks : Store → Call → List (Bool × ℕ)
 checks S (declare ms) = badLength S yields 21 ∷ wrongMarks ms yields 11 ∷ leb 16 ((kinds S) .declared) yields 10 ∷ []
 checks S newRegion = badLength S yields 21 ∷ full S yields 4 ∷ namesOut S yields 5 ∷ []
@@ -101,6 +110,12 @@ checks S audit = []
 checks S (delete r) =
     badLength S yields 21 ∷ dead S r yields 2 ∷ eqb r 1 yields 3 ∷ not (eqb (subregionsOf (regions S) (tagOf (regions S) r)) 0) yields 18
     ∷ (not (eqb (countAt (regions S) (entryOf (regions S) r)) 0) || ledInto S (tagOf (regions S) r)) yields 19 ∷ []
+-- 18 and 19 by the tags of those named. 19: some member's count has a pointer left, or the look over the uncounted frames, once for all of them, finds a slot
+checks S (deleteAll rs) =
+    let g = regions S in
+    let ts = map (tagOf g) rs in
+    badLength S yields 21 ∷ wrongNames rs yields 22 ∷ nameTests (dead S) rs
+    ++ (not (closedIn (g .names) (g .parents) (λ t. among t ts)) yields 18 ∷ (anyOf (λ r. not (eqb (countBut S ts (entryOf g r)) 0)) rs || ledAmong S ts) yields 19 ∷ [])
 
 unfoldable pub refusal : Store → Call → ℕ
 refusal S c = reason (checks S c)
@@ -167,10 +182,6 @@ allocated S s i k j =
     let U = withPages T (withTaken (pages S) j (i + 1) (start + size S k)) in
     fillSlot (withRegions U (withPage (regions S) i (j + 1) (pick (eqb o 0) v o))) s v
 
--- the regions that the words marked 1 on the pages of the regions with the tags ts lead into, but for each region itself
-unfoldable pub outgoing : Store → List ℕ → List ℕ
-outgoing S ts = joined (λ t. outOf ((pages S) .owners) t (freeWordsOf (kinds S) (S .heap) (pages S) t)) ts
-
 -- the regions that the slots of the frames lead into that are counted once m is raised: those below the top that were not; by the lists alone, and in a store
 unfoldable pub newlyIn : ℕ → ℕ → List ℕ → List ℕ → List ℕ → List ℕ
 newlyIn standing counted widths slots owners = joined (targetsIn widths slots owners) (from counted (frameCountIn standing - 1 - counted))
@@ -179,7 +190,7 @@ unfoldable pub newlyCounted : Store → List ℕ
 newlyCounted S = let f = frames S in newlyIn (f .standing) (f .counted) (f .widths) (f .slots) ((pages S) .owners)
 
 -- the regions named rs go: their outgoing pointers leave the counts, those newly counted enter them, the pages are free, the entries are given up, m is raised; the heap stays
--- (document 01, Delete, where it is one region)
+-- (document 01, Delete, where it is one region; document 02, card 2)
 unfoldable pub deleted : Store → List ℕ → Store
 deleted S rs =
     let ts = map (tagOf (regions S)) rs in
@@ -232,6 +243,7 @@ Accepted totals S a T = Leaves a (gives (pagesOf (pages S) 0 ∷ liveCount (regi
 -- 1 if the audit's condition holds, else 0
 Accepted audit S a T = Leaves a (gives (bit (sound S) ∷ [])) T S
 Accepted (delete r) S a T = Leaves a (gives (pagesOf (pages S) (tagOf (regions S) r) ∷ [])) T (deleted S (r ∷ []))
+Accepted (deleteAll rs) S a T = Leaves a (gives (sumOf (λ r. pagesOf (pages S) (tagOf (regions S) r)) rs ∷ [])) T (deleted S rs)
 
 -- a refused call answers its number and zeros, and leaves every word as it was
 abbrev pub Answered : ℕ → Call → Store → Answer → Store → Type 0

@@ -67,6 +67,13 @@ ledIn standing counted widths slots owners t = anyOf (λ i. among t (targetsIn w
 unfoldable pub ledInto : Store → ℕ → Bool
 ledInto S t = let f = frames S in ledIn (f .standing) (f .counted) (f .widths) (f .slots) ((pages S) .owners) t
 
+-- the same for several regions at once, those whose tags pass (document 02, card 2, on 19)
+unfoldable pub ledAmongIn : ℕ → ℕ → List ℕ → List ℕ → List ℕ → (ℕ → Bool) → Bool
+ledAmongIn standing counted widths slots owners member = anyOf (λ i. anyOf member (targetsIn widths slots owners i)) (uncountedIn standing counted)
+
+unfoldable pub ledAmong : Store → List ℕ → Bool
+ledAmong S ts = let f = frames S in ledAmongIn (f .standing) (f .counted) (f .widths) (f .slots) ((pages S) .owners) (λ t. among t ts)
+
 -- x, which leads into the region with tag t, breaks the mark m of a word of the region with tag h; null breaks none
 unfoldable pub breaksIn : List ℕ → List ℕ → List ℕ → ℕ → ℕ → ℕ → ℕ → Bool
 breaksIn names parents levels m h x t = not (eqb x 0 || allowsIn names parents levels m h t)

@@ -7,7 +7,7 @@ use mathlib.Core.List.{List, [], _∷_}
 use Prim.Native.Nat.{ℕ, _+_, _*_, _≤_, _<_}
 use lib.ListN.{length, getD}
 use Rattle.lists.specs.Lists.{bit, All}
-use Rattle.model.specs.Model.{Answer, Call, declare, newRegion, subregion, push, dropFrame, handBack, allocate, first, copy, fetch, clear, load, setPointer, put, get, view, same, about, report, totals, audit, delete, gives, refusedBy}
+use Rattle.model.specs.Model.{Answer, Call, declare, newRegion, subregion, push, dropFrame, handBack, allocate, first, copy, fetch, clear, load, setPointer, put, get, view, same, about, report, totals, audit, delete, deleteAll, gives, refusedBy}
 use Rattle.model.specs.Calls.{makes}
 use Rattle.regions.specs.Regions.{entryOf}
 use Rattle.outcomes.specs.Store.{Store, regions, slot, size}
@@ -62,6 +62,7 @@ Named (report r) S T p = ⊥
 Named totals S T p = ⊥
 Named audit S T p = ⊥
 Named (delete r) S T p = ⊥
+Named (deleteAll rs) S T p = ⊥
 
 unfoldable pub OnlyNamed : Type 0
 OnlyNamed =

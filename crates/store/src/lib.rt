@@ -1,10 +1,11 @@
-// The region store: what a user imports. Every call of document 01 under its name, and `call`, which takes the call's number.
+// The region store: what a user imports. Every call of document 01, and of document 02's cards, under its name, and `call`, which takes the call's number.
 pub use calls_about::about;
 pub use calls_about::same;
 pub use calls_about::totals;
 pub use calls_allocate::allocate;
 pub use calls_audit::audit;
 pub use calls_delete::delete;
+pub use calls_delete_all::delete_all;
 pub use calls_make::declare;
 pub use calls_make::make;
 pub use calls_pointers::load;
@@ -29,7 +30,8 @@ pub use state::State;
 ghost use Rattle.outcomes.specs.Outcome.{store};
 ghost use Rattle.store.specs.Dispatch.{Dispatched};
 
-// The call numbered `number`, as document 01 numbers its calls, with its arguments from the left; what it does not take is ignored. The list is declare's marks.
+// The call numbered `number`, as document 01 numbers its calls, or 24 for delete_all, with its arguments from the left; what it does not take is ignored. The list is declare's marks
+// or delete_all's names.
 // A number that is no call's is answered 24. View's part is had from `view`.
 pub fn call(
     s: State,
@@ -90,6 +92,7 @@ pub fn call(
             reply: audit(s, heap),
         },
         23 => delete(s, heap, a),
+        24 => delete_all(s, heap, list),
         _ => Done {
             state: s,
             reply: checks::refused(24),

@@ -10,7 +10,7 @@ use lib.ListN.{length, set}
 use lib.Seq.{getD-set-same}
 use borrow.Author.Tests.{eqb-false, leb-false, not-false}
 use Rattle.lists.specs.Lists.{bit, pick}
-use Rattle.model.specs.Model.{Model, Answer, Call, declare, newRegion, subregion, push, dropFrame, handBack, allocate, first, copy, fetch, clear, load, setPointer, put, get, view, same, about, report, totals, audit, delete}
+use Rattle.model.specs.Model.{Model, Answer, Call, declare, newRegion, subregion, push, dropFrame, handBack, allocate, first, copy, fetch, clear, load, setPointer, put, get, view, same, about, report, totals, audit, delete, deleteAll}
 use Rattle.model.specs.Model.{livesIn, topPlace, top, stored, gives}
 use Rattle.model.specs.Calls.{checks, refusal, noFrame, lacks, reply, accepted, answer, answerBy, next, nextBy, run, after}
 use Rattle.model.specs.Valid.{Valid}

@@ -9,7 +9,7 @@ use lib.Dec.{eqb}
 use lib.ListN.{length, getD, replicate}
 use borrow.Author.Tests.{eqb-true, leb-false, not-false}
 use Rattle.lists.specs.Laws.Tests.{pick-same}
-use Rattle.model.specs.Model.{Model, Call, declare, newRegion, subregion, push, dropFrame, handBack, allocate, first, copy, fetch, clear, load, setPointer, put, get, view, same, about, report, totals, audit, delete}
+use Rattle.model.specs.Model.{Model, Call, declare, newRegion, subregion, push, dropFrame, handBack, allocate, first, copy, fetch, clear, load, setPointer, put, get, view, same, about, report, totals, audit, delete, deleteAll}
 use Rattle.model.specs.Model.{region, livesIn, beneath, slot, inSlot, markAt, stored}
 use Rattle.model.specs.Calls.{checks, refusal, accepted, next, nextBy, popFrame, addObject, removeRegions}
 use Rattle.model.specs.Valid.{Valid}

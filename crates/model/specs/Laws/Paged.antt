@@ -13,7 +13,7 @@ use Rattle.lists.specs.Laws.Tests.{eqb-sym}
 use Rattle.lists.specs.Laws.All.{all-map, all-at, all-append, all-change}
 use Rattle.lists.specs.Laws.Sums.{sum-append, sum-le, sum-most, sum-any, sum₂-most, count-most}
 use Rattle.lists.specs.Laws.Finds.{all-keep, sum-none, sum-instead}
-use Rattle.model.specs.Model.{Model, Object, Region, Call, declare, newRegion, subregion, push, dropFrame, handBack, allocate, first, copy, fetch, clear, load, setPointer, put, get, view, same, about, report, totals, audit, delete}
+use Rattle.model.specs.Model.{Model, Object, Region, Call, declare, newRegion, subregion, push, dropFrame, handBack, allocate, first, copy, fetch, clear, load, setPointer, put, get, view, same, about, report, totals, audit, delete, deleteAll}
 use Rattle.model.specs.Model.{noRegion, called, live, region, object, marks, livesIn, homeIn, beneath, slot, inSlot, into, freeInto, fromObject, inWords, inFrames, wordPointers, outside, stored}
 use Rattle.model.specs.Calls.{checks, refusal, accepted, next, nextBy, after, fresh, size, fits, fillSlot, popFrame, writeWord, replaced, withWord, addRegion, grown, addObject, removeRegions, others}
 use Rattle.model.specs.Valid.{Valid}

@@ -10,7 +10,7 @@ use lib.Dec.{eqb, leb}
 use borrow.Author.Tests.{eq-eqb, ne-eqb, leb-true}
 use Rattle.lists.specs.Lists.{pick, every}
 use Rattle.lists.specs.Laws.Tests.{both}
-use Rattle.model.specs.Model.{Call, declare, newRegion, subregion, push, dropFrame, handBack, allocate, first, copy, fetch, clear, load, setPointer, put, get, view, same, about, report, totals, audit, delete}
+use Rattle.model.specs.Model.{Call, declare, newRegion, subregion, push, dropFrame, handBack, allocate, first, copy, fetch, clear, load, setPointer, put, get, view, same, about, report, totals, audit, delete, deleteAll}
 use Rattle.model.specs.Calls.{reason, _yields_}
 use Rattle.pages.specs.Pages.{wrongLength, wrongLengthIn}
 use Rattle.outcomes.specs.Store.{Store, pages}

@@ -12,7 +12,7 @@ use borrow.Author.Tests.{eq-eqb, eqb-false, lt-ltb}
 use Rattle.lists.specs.Lists.{bit, pick, anyOf, countOf, findOr, upTo}
 use Rattle.lists.specs.Laws.Finds.{any-count}
 use Rattle.lists.specs.Laws.UpTo.{find-found}
-use Rattle.model.specs.Model.{Answer, Call, declare, newRegion, subregion, push, dropFrame, handBack, allocate, first, copy, fetch, clear, load, setPointer, put, get, view, same, about, report, totals, audit, delete, gives, refusedBy}
+use Rattle.model.specs.Model.{Answer, Call, declare, newRegion, subregion, push, dropFrame, handBack, allocate, first, copy, fetch, clear, load, setPointer, put, get, view, same, about, report, totals, audit, delete, deleteAll, gives, refusedBy}
 use Rattle.regions.specs.Regions.{newestAt, entryOf}
 use Rattle.pages.specs.declared.Pages.{Pages}
 use Rattle.pages.specs.Pages.{pageCount, ownerAt, isFree, pagesOf, pagesIn, takenAt}

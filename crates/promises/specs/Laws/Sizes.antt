@@ -3,7 +3,7 @@
 use mathlib.Core.Path.{subst⁻¹}
 use mathlib.Core.List.{List, [], _∷_, map}
 use Prim.Native.Nat.{ℕ, zero, suc}
-use Rattle.model.specs.Model.{Answer, Call, declare, newRegion, subregion, push, dropFrame, handBack, allocate, first, copy, fetch, clear, load, setPointer, put, get, view, same, about, report, totals, audit, delete}
+use Rattle.model.specs.Model.{Answer, Call, declare, newRegion, subregion, push, dropFrame, handBack, allocate, first, copy, fetch, clear, load, setPointer, put, get, view, same, about, report, totals, audit, delete, deleteAll}
 use Rattle.frames.specs.declared.Frames.{Frames}
 use Rattle.frames.specs.Frames.{topFrame}
 use Rattle.regions.specs.declared.Regions.{Regions}

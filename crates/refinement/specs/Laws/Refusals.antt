@@ -12,7 +12,7 @@ use Rattle.lists.specs.Lists.{pick, anyOf, every, upTo, times}
 use Rattle.lists.specs.Laws.Tests.{by-test, neither, eqb-sym}
 use Rattle.lists.specs.Laws.Finds.{any-sum, any-count, every-same}
 use Rattle.lists.specs.Laws.UpTo.{all-upTo, every-places}
-use Rattle.model.specs.Model.{Model, Call, declare, newRegion, subregion, push, dropFrame, handBack, allocate, first, copy, fetch, clear, load, setPointer, put, get, view, same, about, report, totals, audit, delete}
+use Rattle.model.specs.Model.{Model, Call, declare, newRegion, subregion, push, dropFrame, handBack, allocate, first, copy, fetch, clear, load, setPointer, put, get, view, same, about, report, totals, audit, delete, deleteAll}
 use Rattle.model.specs.Model.{region, livesIn, homeIn, parentIn, top, beneath, slot, inSlot, slotMarks, markAt, above, allowed, inFrames, stored, outside, subregions}
 use Rattle.model.specs.Calls.{checks, refusal, lacks, noFrame, oneFrame, null, noWord, dead, size, fits}
 use Rattle.model.specs.Valid.{Valid}

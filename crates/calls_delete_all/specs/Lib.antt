@@ -1,0 +1,2 @@
+pub mod DeleteAll
+pub mod Laws

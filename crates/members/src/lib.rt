@@ -1,0 +1,79 @@
+// The regions that a list names, known together: marks by tag, a byte that is not 0 for a member. What is wrong with the list itself, and with its names one by one.
+ghost use mathlib.Core.Path.{_≡_};
+ghost use mathlib.Core.Bool.{not};
+ghost use mathlib.Core.List.{map};
+ghost use lib.Dec.{ltb};
+ghost use lib.ListN.{drop};
+ghost use Rattle.lists.specs.Lists.{among};
+ghost use Rattle.model.specs.Calls.{reason, wrongNames, nameTests};
+ghost use Rattle.members.specs.Members.{isMember, marking, tagIn, deadIn, nameRefusal};
+
+// Whether the region with that tag is a member.
+pub fn is_member(members: &[u8], t: u32) -> bool
+    ensures { λ r. ⌜ r ≡ isMember (now (members .entry)) t ⌝ }
+{
+    cells::byte(members, t as usize) != 0
+}
+
+// Whether n stands in the list from place i on.
+fn stands_from(list: &[u32], i: usize, n: u32) -> bool
+    ensures { λ r. ⌜ r ≡ among n (drop i (now (list .entry))) ⌝ }
+{
+    let mut k = i;
+    while k < list.len() {
+        if list[k] == n {
+            return true;
+        }
+        k += 1;
+    }
+    false
+}
+
+// Whether the list is empty, longer than 16 or has a name twice.
+pub fn wrong_names(list: &[u32]) -> bool
+    ensures { λ r. ⌜ r ≡ wrongNames (now (list .entry)) ⌝ }
+{
+    if list.len() == 0 {
+        return true;
+    }
+    if 16 < list.len() {
+        return true;
+    }
+    let mut i: usize = 0;
+    while i < list.len() {
+        let n = list[i];
+        i += 1;
+        if stands_from(list, i, n) {
+            return true;
+        }
+    }
+    false
+}
+
+// 2 and 3 for a name with its entry, which is 64 where no live region has it.
+fn name_refusal(e: u32, n: u32) -> u32
+    ensures { λ r. ⌜ r ≡ nameRefusal e n ⌝ }
+{
+    if 64 <= e {
+        return 2;
+    }
+    if n == 1 { 3 } else { 0 }
+}
+
+// Marks the regions that the list names. Gives 2 or 3 for the first name that has one of them, 0 where none has.
+pub fn mark<'a>(names: &'a [u32], list: &'a [u32], members: &mut [u8]) -> u32
+    ensures { λ r. ⌜ (r ≡ reason (nameTests (deadIn (now (names .entry))) (now (list .entry)))) × (now (members .exit) ≡ marking (now (members .entry)) (map (tagIn (now (names .entry))) (now (list .entry)))) ⌝ }
+{
+    let mut g: u32 = 0;
+    let mut i: usize = 0;
+    while i < list.len() {
+        let n = list[i];
+        i += 1;
+        let e = regions::entry_of(names, n);
+        if g == 0 {
+            g = name_refusal(e, n);
+        }
+        cells::store_byte(members, (e as usize) + 1, 1);
+    }
+    g
+}
