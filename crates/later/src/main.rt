@@ -554,18 +554,9 @@ fn name_lists() {
             [DELETE_ALL, 2, 4, 0],
         ],
     );
-    let s = deletes(
-        s,
-        &mut heap,
-        28,
-        &[2u32, 3, 4, 5, 6, 7, 8, 9, 10, 11, 12, 13, 14, 15, 16, 17, 18],
-    );
-    let s = deletes(
-        s,
-        &mut heap,
-        29,
-        &[3u32, 4, 5, 6, 7, 8, 9, 10, 11, 12, 13, 14, 15, 16, 17, 18],
-    );
+    let names: [u32; 17] = [2, 3, 4, 5, 6, 7, 8, 9, 10, 11, 12, 13, 14, 15, 16, 17, 18];
+    let s = deletes(s, &mut heap, 28, &names);
+    let s = deletes(s, &mut heap, 29, &names[1..17]);
     plays(s, &mut heap, 30, 30, &[[TOTALS, 0, 0, 0]]);
 }
 
