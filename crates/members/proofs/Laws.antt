@@ -1,15 +1,16 @@
 -- One turn of each loop, over what is left of the list from a place on.
 -- Assumes nothing.
-use mathlib.Core.Path.{_≡_, refl, sym, ap, _∙_}
-use mathlib.Core.Bool.{Bool, true, false}
+use mathlib.Core.Path.{_≡_, refl, sym}
+use mathlib.Core.Bool.{Bool, true, false, not}
 use mathlib.Core.List.{List, [], _∷_, map}
 use Prim.Native.Nat.{ℕ, _+_, _≤_, _<_}
 use native.Mathlib.Numerals.{add-one}
-use lib.Dec.{eqb}
+use lib.Dec.{eqb, ltb}
 use lib.ListN.{length, getD, set, drop, drop-of-length-le}
 use lib.Seq.{drop-cons}
-use borrow.Author.Tests.{eq-eqb, ne-eqb}
+use borrow.Author.Tests.{eqb-true, eq-eqb, ne-eqb}
 use Rattle.lists.specs.Lists.{pick, among, repeats}
+use Rattle.lists.specs.Laws.Tests.{by-test}
 use Rattle.model.specs.Calls.{reason, nameTests}
 use Rattle.regions.specs.Regions.{entryIn}
 use Rattle.members.specs.Members.{marking, tagIn, deadIn, nameRefusal}
@@ -34,6 +35,10 @@ refused-next names n l = go (not (ltb (entryIn names n) 64)) (eqb n 1) (refused 
     go true b k = refl
     go false true k = refl
     go false false k = refl
+
+pub refused-end : (names l : List ℕ) (i g : ℕ) → length l ≤ i → g ≡ orElse g (refused names (drop i l))
+unfolding nameTests
+refused-end names l i g h = rw (none-left l i h) (by-test (eqb g 0) (λ t. rw t (eqb-true g 0 t)) (λ t. rw t))
 
 module _ (l : List ℕ) (i : ℕ) (h : i < length l) where
   next : drop i l ≡ getD l i 0 ∷ drop (i + 1) l

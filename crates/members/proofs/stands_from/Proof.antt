@@ -21,20 +21,20 @@ loop-holds c = refl
 returns : tie.Need-returns Inv-loop μ-loop
 returns c =
     let l = c .before .before .before in
-    let a = l .before .before .args in
+    let a = l .before .args in
     sym (found (a .list .now) (l .loop .k) (omega arith) (a .n) (c .if1 .taken)) ∙ l .loop .inv
 
 loop-again : tie.Need-loop-again Inv-loop μ-loop
 loop-again c =
     let l = c .before .before .before in
-    let a = l .before .before .args in
+    let a = l .before .args in
     sym (passed (a .list .now) (l .loop .k) (omega arith) (a .n) (c .if1 .left)) ∙ l .loop .inv
 
 returns-2 : tie.Need-returns-2 Inv-loop μ-loop
 returns-2 c =
     let l = c .before in
-    let a = l .before .before .args in
+    let a = l .before .args in
     rw (none-left (a .list .now) (l .loop .k) (omega arith)) at (l .loop .inv)
 
 pub stands-from-spec : {M : Type 1} → statement M
-stands-from-spec = tie.close (tie.spec Inv-loop μ-loop loop-holds (λ c. search needs) returns (λ c. search needs) (λ c. search needs) loop-again returns-2)
+stands-from-spec = tie.close (tie.spec Inv-loop μ-loop loop-holds (λ c. search needs) (λ c. search needs) returns (λ c. search needs) (λ c. search needs) loop-again returns-2)

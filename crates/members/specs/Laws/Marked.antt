@@ -3,7 +3,7 @@
 use mathlib.Core.Path.{_≡_, refl, sym, ap, _∙_, fun-ext}
 use mathlib.Core.Bool.{Bool, true, false, not, _||_, or-true, or-false, or-assoc}
 use mathlib.Core.Logic.{_⊎_, inl, inr, _≢_}
-use mathlib.Core.List.{List, [], _∷_, map}
+use mathlib.Core.List.{List, [], _∷_, _++_, map, append-nil}
 use Prim.Native.Nat.{ℕ, _+_, _≤_, _<_}
 use native.Mathlib.Omega.{arith}
 use lib.Dec.{eqb, ltb}
@@ -12,8 +12,9 @@ use lib.Seq.{getD-set-same, getD-set-other}
 use borrow.Author.Tests.{eq-eqb, ne-eqb, ltb-true, not-false}
 use Rattle.lists.specs.Lists.{pick, All, among}
 use Rattle.lists.specs.Laws.Tests.{by-same}
-use Rattle.lists.specs.Laws.All.{all-map, all-at, all-replicate}
+use Rattle.lists.specs.Laws.All.{all-map, all-at, all-change, all-replicate}
 use Rattle.model.specs.Calls.{reason, nameTests}
+use Rattle.model.specs.Laws.Passed.{all-passed, names-numbers, names-passed}
 use Rattle.regions.specs.Regions.{entryIn}
 use Rattle.members.specs.Members.{isMember, marking, tagIn, deadIn}
 
@@ -37,7 +38,7 @@ marked-too n marks (t ∷ ts) e h u =
 -- none is marked in zeros
 none : (n u : ℕ) → isMember (replicate n 0) u ≡ false
 unfolding isMember
-none n u = rw (all-at (λ x. x ≡ 0) (replicate n 0) u 0 (all-replicate (λ x. x ≡ 0) n 0 refl) refl)
+none n u = rw (all-at {A = ℕ} (λ x. x ≡ 0) (replicate n 0) u 0 (all-replicate {A = ℕ} (λ x. x ≡ 0) n 0 refl) refl)
 
 pub marked-among : (ts : List ℕ) → All (λ t. t ≤ 64) ts → isMember (marking (replicate 65 0) ts) ≡ (λ t. among t ts)
 marked-among ts h = fun-ext (λ t. marked-too 65 (replicate 65 0) ts (length-replicate {A = ℕ} 65 0) (all-map (λ t k. omega arith) ts h) t ∙ rw (none 65 t))
@@ -47,14 +48,9 @@ pub live-tag : (names : List ℕ) (n : ℕ) → deadIn names n ≡ false → tag
 unfolding deadIn tagIn
 live-tag names n e = omega (arith, ltb-true (entryIn names n) 64 (not-false (ltb (entryIn names n) 64) e))
 
--- so have all that a list names where no name is refused
+-- so is each of a list's names where none is refused
 pub live-tags : (names l : List ℕ) → reason (nameTests (deadIn names) l) ≡ 0 → All (λ t. t ≤ 64) (map (tagIn names) l)
-unfolding nameTests
-live-tags names [] e = tt
-live-tags names (n ∷ l) e = go (deadIn names n) refl (eqb n 1) e (live-tags names l)
-  where
-    go : (a : Bool) → deadIn names n ≡ a → (b : Bool) → pick a 2 (pick b 3 (reason (nameTests (deadIn names) l))) ≡ 0
-        → (reason (nameTests (deadIn names) l) ≡ 0 → All (λ t. t ≤ 64) (map (tagIn names) l)) → (tagIn names n ≤ 64) × All (λ t. t ≤ 64) (map (tagIn names) l)
-    go true q b e h = absurd (omega arith)
-    go false q true e h = absurd (omega arith)
-    go false q false e h = (live-tag names n q, h e)
+live-tags names l e =
+    let dead = deadIn names in
+    let h = all-passed (nameTests dead l ++ []) (names-numbers (ltb 0) refl refl dead l [] refl) (rw (append-nil (nameTests dead l)) e) in
+    all-change (λ n. (dead n ≡ false) × (eqb n 1 ≡ false)) (λ t. t ≤ 64) (tagIn names) (λ n q. live-tag names n (q .0)) l (names-passed dead l [] h .0)
