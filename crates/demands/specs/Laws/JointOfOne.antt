@@ -3,7 +3,7 @@
 use mathlib.Core.Path.{_≡_, refl, sym, ap, ap₂, _∙_, subst⁻¹, fun-ext}
 use mathlib.Core.Logic.{_↔_, _≢_, inl, inr}
 use mathlib.Core.Bool.{Bool, true, false, not, _&&_, _||_, or-false}
-use mathlib.Core.List.{List, [], _∷_, append-nil}
+use mathlib.Core.List.{List, [], _∷_, map, append-nil}
 use Prim.Native.Nat.{ℕ, zero, suc, _+_, _≤_, _<_}
 use native.Mathlib.Nat.{add-zero}
 use native.Mathlib.Numerals.{add-one}
@@ -22,9 +22,9 @@ use Rattle.model.specs.Laws.Paged.{stored-bound}
 use Rattle.regions.specs.declared.Regions.{Regions}
 use Rattle.regions.specs.Regions.{nameAt, entryIn, entryOf, tagOf, isLive, parentAt, levelAt, subregionsIn, subregionsOf, closedIn, countAt}
 use Rattle.regions.specs.Laws.Recount.{recount-exact}
-use Rattle.pages.specs.Pages.{pagesOf}
-use Rattle.objects.specs.Objects.{outOf}
-use Rattle.outcomes.specs.Store.{Store, frames, regions, pages, targetsIn, uncountedIn, ledIn, ledInto, ledAmongIn, ledAmong}
+use Rattle.pages.specs.Pages.{ownerIn, pagesOf}
+use Rattle.objects.specs.Objects.{freeWordsOf, outOf}
+use Rattle.outcomes.specs.Store.{Store, frames, kinds, regions, pages, targetsIn, uncountedIn, ledIn, ledInto, ledAmongIn, ledAmong}
 use Rattle.outcomes.specs.Shape.{Shaped}
 use Rattle.outcomes.specs.Outcome.{Outcome, Accepted, Answered, badLength, dead, outgoing, countBut, checks, refusal}
 use Rattle.outcomes.specs.Laws.Steps.{by-refusal}
@@ -82,9 +82,9 @@ module _ (names parents : List ℕ) where
       → let n = subregionsIn names parents (suc i) in closedIn names parents (λ t. among t (suc i ∷ [])) ≡ (eqb n 0 || (eqb (getD parents i 0) (suc i) && eqb n 1))
   unfolding closedIn subregionsIn
   closed-one i h u =
-      ap (λ f. every f (upTo 64)) (fun-ext (λ k. rw (among-alone (getD parents k 0) (suc i), among-alone (suc k) (suc i), eqb·suc-suc k i) (tests (eqb (getD names k 0) 0) (eqb (getD parents k 0) (suc i)) (eqb k i))))
+      ap (λ f. every f (upTo 64)) (fun-ext alike)
       ∙ every-but below 64 i h
-      ∙ last (eqb (getD parents i 0) (suc i)) (countOf below (upTo 64)) own
+      ∙ count (eqb (getD parents i 0) (suc i)) (countOf below (upTo 64)) own
     where
       below : ℕ → Bool
       below k = not (eqb (getD names k 0) 0) && eqb (getD parents k 0) (suc i)
@@ -97,21 +97,31 @@ module _ (names parents : List ℕ) where
       tests false false true = refl
       tests false false false = refl
 
+      alike : (k : ℕ) → (eqb (getD names k 0) 0 || not (among (getD parents k 0) (suc i ∷ [])) || among (suc k) (suc i ∷ [])) ≡ eqb (pick (eqb k i) 0 (bit (below k))) 0
+      alike k = rw (among-alone (getD parents k 0) (suc i), among-alone (suc k) (suc i), eqb·suc-suc k i) (tests (eqb (getD names k 0) 0) (eqb (getD parents k 0) (suc i)) (eqb k i))
+
       own : bit (below i) ≤ countOf below (upTo 64)
       own = sum-one (λ k. bit (below k)) 64 i h
 
-      last : (b : Bool) (n : ℕ) → bit (not (eqb (getD names i 0) 0) && b) ≤ n → eqb n (bit (not (eqb (getD names i 0) 0) && b)) ≡ (eqb n 0 || (b && eqb n 1))
-      last true n l = rw (ne-eqb (getD names i 0) 0 u, ne-eqb n 0 (λ z. omega (arith, rw (ne-eqb (getD names i 0) 0 u) at l)))
-      last false n l = rw (ne-eqb (getD names i 0) 0 u) (sym (or-false (eqb n 0)))
+      count : (b : Bool) (n : ℕ) → bit (not (eqb (getD names i 0) 0) && b) ≤ n → eqb n (bit (not (eqb (getD names i 0) 0) && b)) ≡ (eqb n 0 || (b && eqb n 1))
+      count true n l = rw (ne-eqb (getD names i 0) 0 u, ne-eqb n 0 (λ z. omega (arith, rw (ne-eqb (getD names i 0) 0 u) at l)))
+      count false n l = rw (ne-eqb (getD names i 0) 0 u) (sym (or-false (eqb n 0)))
 
 -- ---- 19
 
-module _ (S : Store) where
-  -- the own words of a region are never counted for it, so its count stays
-  none-out : (t : ℕ) → times t (outgoing S (t ∷ [])) ≡ 0
-  unfolding outgoing outOf
-  none-out t = ap (times t) (append-nil _) ∙ times-keep t (λ x. not (eqb x t)) _ ∙ rw (eq-eqb t t refl)
+-- the own words of a region are never counted for it
+none-own : (owners : List ℕ) (t : ℕ) (vs : List ℕ) → times t (outOf owners t vs) ≡ 0
+unfolding outOf
+none-own owners t vs = times-keep t (λ x. not (eqb x t)) (map (ownerIn owners) vs) ∙ rw (eq-eqb t t refl)
 
+module _ (S : Store) where
+  none-out : (t : ℕ) → times t (outgoing S (t ∷ [])) ≡ 0
+  unfolding outgoing
+  none-out t =
+      let vs = freeWordsOf (kinds S) (S .heap) (pages S) t in
+      rw (append-nil (outOf ((pages S) .owners) t vs)) (none-own ((pages S) .owners) t vs)
+
+  -- so its count stays
   count-one : (i : ℕ) → i < 64 → countAt (regions S) i < 4294967296 → countBut S (suc i ∷ []) i ≡ countAt (regions S) i
   unfolding countBut
   count-one i l h = recount-exact (regions S) [] (outgoing S (suc i ∷ [])) i (countAt (regions S) i) l (omega (arith, none-out (suc i))) h
@@ -158,8 +168,11 @@ module _ (S : Store) (r : ℕ) where
   counted small d = rw (add-one entry) (count-one S entry (in-entries d) (small d))
 
   -- the tests of delete, with b in place of the one for 18
+  abbrev last : Bool
+  last = not (eqb (countAt g entry) 0) || ledInto S tag
+
   tested : Bool → ℕ
-  tested b = pick (badLength S) 21 (pick (dead S r) 2 (pick (eqb r 1) 3 (pick b 18 (pick (not (eqb (countAt g entry) 0) || ledInto S tag) 19 0))))
+  tested b = pick (badLength S) 21 (pick (dead S r) 2 (pick (eqb r 1) 3 (pick b 18 (pick last 19 0))))
 
   delete-tested : refusal S (delete r) ≡ tested (not (eqb (subregionsOf g tag) 0))
   unfolding refusal checks tested
@@ -201,11 +214,11 @@ module _ (S : Store) (r : ℕ) where
   unfolding Refusals tested
   apart small s o =
       let d : refusal S (delete r) ≡ 18 = delete-tested ∙ rw (o .0, o .1, ne-eqb r 1 (o .2), o .4) in
-      let j : refusal S (deleteAll (r ∷ [])) ≡ pick (not (eqb (countAt g entry) 0) || ledInto S tag) 19 0 =
+      let j : refusal S (deleteAll (r ∷ [])) ≡ pick last 19 0 =
       joint-tested small ∙ rw (o .0, o .1, ne-eqb r 1 (o .2), o .3, eq-eqb tag tag refl, o .4) in
-      not-18 _ (refusals (deleteAll (r ∷ [])) S (refusedBy 18) S (s (refusedBy 18) S .1 (by-refusal (delete r) S (refusedBy 18) S 18 d (λ z. omega arith) refl refl)) .0 ∙ j)
+      not-18 last (refusals (deleteAll (r ∷ [])) S (refusedBy 18) S (s (refusedBy 18) S .1 (by-refusal (delete r) S (refusedBy 18) S 18 d (λ z. omega arith) refl refl)) .0 ∙ j)
     where
-      not-18 : (b : Bool) → 18 ≡ pick b 19 0 → ⊥
+      not-18 : (b : Bool) → _≡_ {A = ℕ} 18 (pick b 19 0) → ⊥
       not-18 true e = omega arith
       not-18 false e = omega arith
 
