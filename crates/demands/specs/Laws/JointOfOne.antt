@@ -1,6 +1,6 @@
 -- A list of one name for delete_all has the outcomes of delete, on every memory but where the region is entered as its own region above and has no other subregion; so after every run.
 -- Assumes nothing.
-use mathlib.Core.Path.{_≡_, refl, sym, ap, ap₂, _∙_, subst⁻¹, fun-ext}
+use mathlib.Core.Path.{_≡_, refl, sym, ap, _∙_, subst⁻¹, fun-ext}
 use mathlib.Core.Logic.{_↔_, _≢_, inl, inr}
 use mathlib.Core.Bool.{Bool, true, false, not, _&&_, _||_, or-false}
 use mathlib.Core.List.{List, [], _∷_, map, append-nil}
@@ -16,7 +16,7 @@ use Rattle.lists.specs.Laws.Tests.{by-test, both}
 use Rattle.lists.specs.Laws.Finds.{find-none, find-passes, times-keep}
 use Rattle.lists.specs.Laws.UpTo.{sum-change}
 use Rattle.lists.specs.Laws.Kept.{among-alone, sum-one}
-use Rattle.model.specs.Model.{Model, Answer, delete, deleteAll, gives, refusedBy}
+use Rattle.model.specs.Model.{Model, delete, deleteAll, gives, refusedBy}
 use Rattle.model.specs.Calls.{wrongNames, nameTests}
 use Rattle.model.specs.Laws.Paged.{stored-bound}
 use Rattle.regions.specs.declared.Regions.{Regions}
@@ -65,18 +65,19 @@ every-but f n k h =
         (λ t. rw (t, eq-eqb a c (omega (arith, eqb-true b 0 t))))
         (λ t. rw (t, ne-eqb a c (λ q. eqb-false b 0 t (omega arith))))
 
+-- the entry found of a name is in use
+entry-used : (names : List ℕ) (r : ℕ) → entryIn names r < 64 → getD names (entryIn names r) 0 ≢ 0
+unfolding entryIn
+entry-used names r = go (eqb r 0) refl
+  where
+    found : ℕ
+    found = findOr (λ i. eqb (getD names i 0) r) 64 (upTo 64)
+
+    go : (b : Bool) → eqb r 0 ≡ b → pick b 64 found < 64 → getD names (pick b 64 found) 0 ≢ 0
+    go true z h e = omega arith
+    go false z h e = eqb-false r 0 z (sym (eqb-true (getD names found 0) r (found-passes (λ i. eqb (getD names i 0) r) 64 h)) ∙ e)
+
 module _ (names parents : List ℕ) where
-  entry-used : (r : ℕ) → entryIn names r < 64 → getD names (entryIn names r) 0 ≢ 0
-  unfolding entryIn
-  entry-used r h = go (eqb r 0) refl h
-    where
-      f : ℕ → Bool
-      f i = eqb (getD names i 0) r
-
-      go : (b : Bool) → eqb r 0 ≡ b → pick b 64 (findOr (λ i. eqb (getD names i 0) r) 64 (upTo 64)) < 64 → getD names (pick b 64 (findOr (λ i. eqb (getD names i 0) r) 64 (upTo 64))) 0 ≢ 0
-      go true z h e = omega arith
-      go false z h e = eqb-false r 0 z (sym (eqb-true (getD names (findOr (λ i. eqb (getD names i 0) r) 64 (upTo 64)) 0) r (found-passes (λ i. eqb (getD names i 0) r) 64 h)) ∙ e)
-
   -- a list of one finds no subregion where there is none, or only the region itself
   closed-one : (i : ℕ) → i < 64 → getD names i 0 ≢ 0
       → let n = subregionsIn names parents (suc i) in closedIn names parents (λ t. among t (suc i ∷ [])) ≡ (eqb n 0 || (eqb (getD parents i 0) (suc i) && eqb n 1))
@@ -149,7 +150,7 @@ module _ (S : Store) (r : ℕ) where
 
     used : nameAt g entry ≢ 0
     unfolding nameAt entryOf
-    used = entry-used (g .names) (g .parents) r in-entries
+    used = entry-used (g .names) r in-entries
 
   -- the region's one subregion is itself
   abbrev own : Bool
@@ -167,7 +168,7 @@ module _ (S : Store) (r : ℕ) where
   unfolding tagOf
   counted small d = rw (add-one entry) (count-one S entry (in-entries d) (small d))
 
-  -- the tests of delete, with b in place of the one for 18
+  -- the test of delete for 19; and all its tests, with b in place of the one for 18
   abbrev last : Bool
   last = not (eqb (countAt g entry) 0) || ledInto S tag
 
