@@ -11,3 +11,4 @@ pub mod Later
 pub mod JointOfOne
 pub mod Table
 pub mod Cases
+pub mod Together
