@@ -1,4 +1,4 @@
-use mathlib.Core.Path.{_≡_, refl, sym, _∙_}
+use mathlib.Core.Path.{_≡_, refl, sym, ap, _∙_}
 use mathlib.Core.Bool.{Bool, true, false}
 use mathlib.Core.List.{List}
 use Prim.Native.Nat.{ℕ, _-_, _≤_, _<_}
@@ -62,7 +62,9 @@ slot-is :
     let o = l .before .before .before in
     let a = o .before .before .before .before .before .before .args in
     c .is-member .result ≡ into (a .widths .now) (a .slots .now) (a .owners .now) (a .members .now) (o .look .i) (l .loop .k)
-slot-is c = rw (← c .before .before .slot-at .ensures, ← c .before .owner-of .ensures) (c .is-member .ensures)
+slot-is c =
+    let a = c .before .before .before .before .before .before .before .before .before .before .before .before .before .args in
+    c .is-member .ensures ∙ ap (isMember (a .members .now)) (c .before .owner-of .ensures ∙ ap (ownerIn (a .owners .now)) (c .before .before .slot-at .ensures))
 
 loop-again : tie.Need-loop-again Inv-loop μ-loop Inv-look μ-look
 loop-again c =

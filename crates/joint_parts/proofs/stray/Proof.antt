@@ -1,7 +1,7 @@
-use mathlib.Core.Path.{_≡_, refl}
+use mathlib.Core.Path.{_≡_, refl, ap, _∙_}
 use mathlib.Core.Bool.{Bool, true, false, not, _||_}
 use Prim.Native.Nat.{suc}
-use native.Mathlib.Numerals.{add-one}
+use native.Mathlib.Omega.{arith}
 use lib.Dec.{eqb}
 use lib.ListN.{getD}
 use borrow.Author.Needs.{needs}
@@ -13,7 +13,7 @@ use Rattle.joint_parts.proofs.stray.Tie as tie
 
 -- the second test asks for the entry's own region
 own : (c : tie.After-is-member) → let a = c .before .before .before .before .before .before .args in c .is-member .result ≡ isMember (a .members .now) (suc (a .e))
-own c = rw (add-one _) at (c .is-member .ensures)
+own c = c .is-member .ensures ∙ ap (isMember (c .before .before .before .before .before .before .args .members .now)) (omega arith)
 
 returns : tie.Need-returns
 unfolding stray

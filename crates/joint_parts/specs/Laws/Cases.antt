@@ -8,22 +8,22 @@ use lib.Dec.{eqb}
 use lib.ListN.{replicate}
 use Rattle.lists.specs.Lists.{bit, every, equal}
 use Rattle.kinds.specs.declared.Kinds.{Kinds}
-use Rattle.kinds.specs.Kinds.{kindsWith, kindCount, sizeIn, sizeOf, markAt}
+use Rattle.kinds.specs.Kinds.{kindsWith, sizeIn, sizeOf, markAt}
 use Rattle.regions.specs.Regions.{closedIn}
 use Rattle.regions.specs.Laws.Steps.{stepped, steps, leavings}
 use Rattle.pages.specs.declared.Pages.{Pages}
-use Rattle.pages.specs.Pages.{pagesWith, pageCount, ownerAt, takenAt, ownerIn}
-use Rattle.objects.specs.Objects.{walk, headersTo, headersOn, freeWords, freeWordsOn, outOf}
+use Rattle.pages.specs.Pages.{pagesWith, ownerAt, takenAt, ownerIn}
+use Rattle.objects.specs.Objects.{walk, headersTo, freeWords, freeWordsOn, outOf}
 use Rattle.outcomes.specs.Store.{targetsIn, ledAmongIn}
 use Rattle.members.specs.Members.{isMember}
-use Rattle.joint_parts.specs.Joint.{stray, stillCounted, outFrom, zeroed, freedTo, heldBy, namesLeft}
+use Rattle.joint_parts.specs.Joint.{stillCounted, outFrom, zeroed, freedTo, heldBy, namesLeft}
 
--- Regions 1 to 4 at the tags 1 to 4; regions 3 and 4 are below region 2. The last of the five pages is region 2's too.
+-- Regions 1 to 4 at the tags 1 to 4; region 4 is below region 2. The last of the five pages is region 2's too.
 abbrev names : List ℕ
 names = 1 ∷ 2 ∷ 3 ∷ 4 ∷ []
 
 abbrev parents : List ℕ
-parents = 0 ∷ 0 ∷ 2 ∷ 2 ∷ []
+parents = 0 ∷ 0 ∷ 0 ∷ 2 ∷ []
 
 abbrev pages : Pages
 pages = pagesWith 5 (1 ∷ 2 ∷ 3 ∷ 4 ∷ 2 ∷ []) (3 ∷ 3 ∷ 3 ∷ 3 ∷ 3 ∷ [])
@@ -54,14 +54,14 @@ abbrev cases : List (List ℕ × List (List ℕ))
 cases =
     -- none
     (replicate 65 0, (1 ∷ 0 ∷ 0 ∷ 0 ∷ []) ∷ (2 ∷ 1 ∷ 2 ∷ 2 ∷ []) ∷ (1 ∷ 2 ∷ 3 ∷ 4 ∷ 2 ∷ []) ∷ (1 ∷ 2 ∷ 3 ∷ 4 ∷ []) ∷ [])
-    -- region 2: regions below it are not marked, and region 3's word leads into it
+    -- region 2: the one below it is not marked, and a word of region 3 leads into it
     ∷ (0 ∷ 0 ∷ 1 ∷ 0 ∷ 0 ∷ [], (0 ∷ 0 ∷ 1 ∷ 2 ∷ []) ∷ (1 ∷ 1 ∷ 0 ∷ 2 ∷ []) ∷ (1 ∷ 0 ∷ 3 ∷ 4 ∷ 0 ∷ []) ∷ (1 ∷ 0 ∷ 3 ∷ 4 ∷ []) ∷ [])
-    -- regions 2 and 3: words_of_members_stay would leave both counted, page_of_another_given_back would free pages 0, 1 and 2
+    -- regions 2 and 3: words_of_members_stay, page_of_another_given_back
     ∷ (0 ∷ 0 ∷ 1 ∷ 1 ∷ 0 ∷ [], (0 ∷ 0 ∷ 0 ∷ 3 ∷ []) ∷ (1 ∷ 0 ∷ 0 ∷ 1 ∷ []) ∷ (1 ∷ 0 ∷ 0 ∷ 4 ∷ 0 ∷ []) ∷ (1 ∷ 0 ∷ 0 ∷ 4 ∷ []) ∷ [])
-    -- regions 2, 3 and 4: member_subregion_refuses, look_skips_the_top
-    ∷ (0 ∷ 0 ∷ 1 ∷ 1 ∷ 1 ∷ [], (1 ∷ 1 ∷ 1 ∷ 4 ∷ []) ∷ (0 ∷ 0 ∷ 0 ∷ 1 ∷ []) ∷ (1 ∷ 0 ∷ 0 ∷ 0 ∷ 0 ∷ []) ∷ (1 ∷ 0 ∷ 0 ∷ 0 ∷ []) ∷ [])
+    -- regions 2 and 4: member_subregion_refuses, look_stops_early
+    ∷ (0 ∷ 0 ∷ 1 ∷ 0 ∷ 1 ∷ [], (1 ∷ 1 ∷ 1 ∷ 3 ∷ []) ∷ (0 ∷ 1 ∷ 0 ∷ 2 ∷ []) ∷ (1 ∷ 0 ∷ 3 ∷ 0 ∷ 0 ∷ []) ∷ (1 ∷ 0 ∷ 3 ∷ 0 ∷ []) ∷ [])
     ∷ []
 
 pub computed : every (λ p. equal (equal eqb) (reads (p .0)) (p .1)) cases ≡ true
-unfolding kindCount sizeIn sizeOf markAt closedIn stepped steps pageCount ownerAt takenAt ownerIn walk headersTo headersOn freeWords freeWordsOn outOf targetsIn ledAmongIn isMember stray stillCounted outFrom zeroed freedTo heldBy namesLeft
+unfolding sizeIn sizeOf markAt closedIn stepped steps ownerAt takenAt ownerIn walk headersTo freeWords freeWordsOn outOf targetsIn ledAmongIn isMember stillCounted outFrom zeroed freedTo heldBy namesLeft
 computed = refl
