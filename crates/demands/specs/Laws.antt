@@ -10,3 +10,4 @@ pub mod Demand3
 pub mod Later
 pub mod Table
 pub mod Cases
+pub mod Together

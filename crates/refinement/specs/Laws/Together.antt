@@ -50,7 +50,7 @@ module _ {A : Type 0} where
       go false true false = refl
       go false false c = refl
 
-  every-count : (f : A → Bool) (l : List A) → every f l ≡ eqb (countOf (λ x. not (f x)) l) 0
+  pub every-count : (f : A → Bool) (l : List A) → every f l ≡ eqb (countOf (λ x. not (f x)) l) 0
   every-count f [] = refl
   every-count f (x ∷ xs) = go (f x) (every-count f xs)
     where
