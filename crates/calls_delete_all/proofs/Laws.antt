@@ -1,6 +1,6 @@
 -- The tests and the state left are those of the call's outcome.
 -- Assumes nothing.
-use mathlib.Core.Path.{_≡_, sym, ap, _∙_}
+use mathlib.Core.Path.{_≡_, ap, _∙_}
 use mathlib.Core.Logic.{_≢_}
 use mathlib.Core.Bool.{Bool, true, false, _||_}
 use mathlib.Core.List.{List, [], _∷_, map}
@@ -13,7 +13,7 @@ use Rattle.model.specs.Model.{Answer, deleteAll, gives, refusedBy}
 use Rattle.model.specs.Calls.{reason}
 use Rattle.frames.specs.Frames.{raised}
 use Rattle.regions.specs.declared.Regions.{Regions}
-use Rattle.regions.specs.Regions.{entryOf, tagOf, clearedAt, withoutRegions, withCounts, recount}
+use Rattle.regions.specs.Regions.{entryOf, tagOf, withoutRegions, withCounts}
 use Rattle.regions.specs.Laws.Counts.{Counts}
 use Rattle.regions.specs.Laws.Steps.{enterings, leavings}
 use Rattle.pages.specs.Pages.{pageCountIn, pageCount, pagesWith, pagesOf, freed}

@@ -1,5 +1,4 @@
 -- Laws, proved: nothing here has to be believed.
-pub mod General
 pub mod Tags
 pub mod Gone
 pub mod Counted

@@ -5,18 +5,16 @@ use mathlib.Core.Logic.{_≢_}
 use mathlib.Core.Bool.{Bool, true, false, not, _||_}
 use mathlib.Core.List.{List, [], _∷_, _++_, map, append-assoc}
 use Prim.Native.Nat.{ℕ, _<_, _≤_}
-use native.Mathlib.Omega.{arith}
 use lib.Dec.{eqb, ltb}
-use lib.ListN.{length, getD}
-use borrow.Author.Tests.{eqb-true, ltb-true, not-false}
+use lib.ListN.{length}
+use borrow.Author.Tests.{ltb-true, not-false}
 use Rattle.lists.specs.Lists.{pick, anyOf, every, All, among, repeats, times}
-use Rattle.lists.specs.Laws.Tests.{by-test, neither}
+use Rattle.lists.specs.Laws.Tests.{neither}
 use Rattle.lists.specs.Laws.All.{all-map, all-append}
 use Rattle.model.specs.Model.{deleteAll}
 use Rattle.model.specs.Calls.{reason, _yields_, wrongNames, nameTests}
 use Rattle.model.specs.Laws.Passed.{positive, all-passed, names-numbers, names-passed}
-use Rattle.regions.specs.declared.Regions.{Regions}
-use Rattle.regions.specs.Regions.{entryIn, entryOf, tagOf, isLive, closedIn, countAt, withCounts, recount}
+use Rattle.regions.specs.Regions.{entryIn, entryOf, tagOf, isLive, closedIn, countAt, withCounts}
 use Rattle.regions.specs.Laws.Counts.{Counts}
 use Rattle.regions.specs.Laws.Steps.{leavings}
 use Rattle.pages.specs.Pages.{wrongLengthIn, wrongLength, pageCountIn}

@@ -9,7 +9,7 @@ use native.Mathlib.Omega.{arith}
 use lib.Dec.{eqb}
 use lib.ListN.{getD}
 use borrow.Author.Tests.{eqb-true, eq-eqb, ne-eqb, not-false, not-true}
-use Rattle.lists.specs.Lists.{anyOf, every, All}
+use Rattle.lists.specs.Lists.{every, All}
 use Rattle.lists.specs.Laws.Tests.{both}
 use Rattle.lists.specs.Laws.All.{all-map}
 use Rattle.lists.specs.Laws.Finds.{any-false, false-any, every-true}

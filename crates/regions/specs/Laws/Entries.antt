@@ -10,7 +10,8 @@ use lib.Dec.{eqb}
 use lib.ListN.{length, getD}
 use borrow.Author.Tests.{eqb-true, ne-eqb, lt-ltb}
 use Rattle.lists.specs.Lists.{bit, pick, anyOf, findOr, countOf, upTo}
-use Rattle.lists.specs.Laws.Finds.{any-count, all-find}
+use Rattle.lists.specs.Laws.Tests.{by-test}
+use Rattle.lists.specs.Laws.Finds.{any-count, all-find, find-none}
 use Rattle.lists.specs.Laws.UpTo.{length-upTo, find-found, all-upTo}
 use Rattle.regions.specs.declared.Regions.{Regions}
 use Rattle.regions.specs.Regions.{nameAt, nameOf, entryOf, liveCount, unused, entryIn, liveIn, nameIn, unusedIn, upIn, levelIn}
@@ -89,3 +90,15 @@ entry-most names n = go (eqb n 0)
     go : (b : Bool) → pick b 64 (findOr (λ i. eqb (getD names i 0) n) 64 (upTo 64)) ≤ 64
     go true = omega arith
     go false = all-find (λ i. i ≤ 64) (λ i. eqb (getD names i 0) n) 64 (upTo 64) (all-upTo (λ i. i ≤ 64) 64 (λ i h. omega arith)) (omega arith)
+
+-- the entry found has the name
+pub entry-named : (names : List ℕ) (n : ℕ) → entryIn names n < 64 → getD names (entryIn names n) 0 ≡ n
+unfolding entryIn
+entry-named names n = go (eqb n 0)
+  where
+    has : ℕ → Bool
+    has i = eqb (getD names i 0) n
+
+    go : (b : Bool) → pick b 64 (findOr has 64 (upTo 64)) < 64 → getD names (pick b 64 (findOr has 64 (upTo 64))) 0 ≡ n
+    go true h = absurd (omega arith)
+    go false h = by-test (anyOf has (upTo 64)) (λ e. eqb-true (getD names (findOr has 64 (upTo 64)) 0) n (find-found has 64 64 e .1)) (λ e. absurd (omega (arith, find-none has 64 (upTo 64) e)))
