@@ -1,6 +1,6 @@
 -- The tests and the state left are those of the call's outcome.
 -- Assumes nothing.
-use mathlib.Core.Path.{_≡_, sym, ap, _∙_}
+use mathlib.Core.Path.{_≡_, ap, _∙_}
 use mathlib.Core.Logic.{_≢_}
 use mathlib.Core.Bool.{Bool, true, false, _||_}
 use mathlib.Core.List.{List, [], _∷_, map}
@@ -13,7 +13,7 @@ use Rattle.model.specs.Model.{Answer, deleteAll, gives, refusedBy}
 use Rattle.model.specs.Calls.{reason}
 use Rattle.frames.specs.Frames.{raised}
 use Rattle.regions.specs.declared.Regions.{Regions}
-use Rattle.regions.specs.Regions.{entryOf, tagOf, clearedAt, withoutRegions, withCounts, recount}
+use Rattle.regions.specs.Regions.{entryOf, tagOf, withoutRegions, withCounts}
 use Rattle.regions.specs.Laws.Counts.{Counts}
 use Rattle.regions.specs.Laws.Steps.{enterings, leavings}
 use Rattle.pages.specs.Pages.{pageCountIn, pageCount, pagesWith, pagesOf, freed}
@@ -79,6 +79,7 @@ module _ (S : Store) (rs : List ℕ) where
           → Outcome (deleteAll rs) S a T
       unfolding Accepted deleted recounted newlyCounted freed pageCount withoutRegions withCounts
       delete-all-effect a T k ds os ns e p l ed ek eo en ef et er ep eh =
-          by-effect (deleteAll rs) S a T (second ∙ ap (λ b. pick b 19 0) e)
-          (p ∙ rw (ek, members, held-are (pages S) (tags S rs) once, sum-map (pagesOf (pages S)) (tagOf (regions S)) rs),
-          by-parts T (deleted S rs) ef et (er ∙ rw (ed, en, scanned, members, names-are (regions S) rs live) (ap (λ h. withoutRegions h (map (entryOf (regions S)) rs)) (entered-are S (tags S rs) once fits (newlyCounted S)))) (ep ∙ rw (eo, members, freed-are ((pages S) .owners) (tags S rs) _ l)) eh)
+          by-effect (deleteAll rs) S a T (second ∙ ap (λ b. pick b 19 0) e) (
+            p ∙ rw (ek, members, held-are (pages S) (tags S rs) once, sum-map (pagesOf (pages S)) (tagOf (regions S)) rs),
+            by-parts T (deleted S rs) ef et (er ∙ rw (ed, en, scanned, members, names-are (regions S) rs live) (ap (λ h. withoutRegions h (map (entryOf (regions S)) rs)) (entered-are S (tags S rs) once fits (newlyCounted S)))) (ep ∙ rw (eo, members, freed-are ((pages S) .owners) (tags S rs) _ l)) eh,
+          )
