@@ -1,1 +1,2 @@
 -- Laws, proved: nothing here has to be believed.
+pub mod Cases
