@@ -75,7 +75,15 @@ pub fn delete_all(s: State, heap: &[u32], list: &[u32]) -> Done
         &members,
         &mut c,
     );
-    if pointed(&c, n, m, &t.frames.widths, &t.frames.slots, &t.pages.owners, &members) {
+    if pointed(
+        &c,
+        n,
+        m,
+        &t.frames.widths,
+        &t.frames.slots,
+        &t.pages.owners,
+        &members,
+    ) {
         return Done {
             state: t,
             reply: checks::refused(19),

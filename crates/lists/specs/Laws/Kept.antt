@@ -8,9 +8,9 @@ use Prim.Native.Nat.{ℕ, zero, suc, _+_, _≤_, _<_, min}
 use native.Mathlib.Omega.{arith}
 use lib.Dec.{eqb, leb}
 use lib.ListN.{length, getD}
-use borrow.Author.Tests.{leb-true, leb-false, eqb-true, eq-eqb, ne-eqb}
-use Rattle.lists.specs.Lists.{bit, pick, anyOf, keep, findOr, sumOf, All, All₂, joined, from, upTo, times, among}
-use Rattle.lists.specs.Laws.Tests.{by-test, or-right, eqb-sym}
+use borrow.Author.Tests.{leb-true, leb-false, ltb-false, eqb-true, eq-eqb, ne-eqb}
+use Rattle.lists.specs.Lists.{bit, pick, anyOf, keep, findOr, sumOf, All, All₂, joined, from, upTo, times, among, repeats}
+use Rattle.lists.specs.Laws.Tests.{by-test, neither, or-right, eqb-sym}
 use Rattle.lists.specs.Laws.All.{all-map, all-append}
 use Rattle.lists.specs.Laws.Finds.{all-keep, any-count, map-append}
 use Rattle.lists.specs.Laws.Sums.{sum-pick, sum-swap, length-keep, count-most}
@@ -55,6 +55,12 @@ module _ {A B : Type 0} where
           → pick b (g x) (findOr f d (map g xs)) ≡ g (pick b x (findOr (λ x. f (g x)) e xs))
       go true h ih = refl
       go false h ih = ih h
+
+module _ {A B : Type 0} where
+  pub all₂-each-of : (C : ℕ → Type 0) (P : ℕ → A → B → Type 0) (xs : List A) (ys : List B) → ((q : ℕ) → C q → All₂ (P q) xs ys) → All₂ (λ x y. (q : ℕ) → C q → P q x y) xs ys
+  all₂-each-of C P [] ys h = tt
+  all₂-each-of C P (x ∷ xs) [] h = tt
+  all₂-each-of C P (x ∷ xs) (y ∷ ys) h = ((λ q c. h q c .0), all₂-each-of C P xs ys (λ q c. h q c .1))
 
 module _ {A B C : Type 0} where
   pub map-map : (f : B → C) (g : A → B) (l : List A) → map f (map g l) ≡ map (λ x. f (g x)) l
@@ -102,7 +108,21 @@ all-among P (x ∷ xs) h n e = go (eqb x n) refl e (all-among P xs (h .1) n)
     go true q e ih = subst P (eqb-true x n q) (h .0)
     go false q e ih = ih e
 
+-- a list in which no number stands twice
+pub repeats-once : (l : List ℕ) → repeats l ≡ false → (q : ℕ) → times q l ≤ 1
+repeats-once [] e q = omega arith
+repeats-once (x ∷ xs) e q =
+    let d = neither (among x xs) (repeats xs) e in
+    by-test (eqb x q)
+    (λ t. rw (t, ← eqb-true x q t) (omega (arith, ltb-false 0 (times x xs) (sym (any-count (λ y. eqb y x) xs) ∙ d .0))))
+    (λ t. rw t (omega (arith, repeats-once xs (d .1) q)))
+
 module _ {A : Type 0} where
+  -- what holds of all elements, for each number that passes, is what each element has for all of them
+  pub all-each-of : (C : ℕ → Type 0) (P : ℕ → A → Type 0) (l : List A) → ((q : ℕ) → C q → All (P q) l) → All (λ x. (q : ℕ) → C q → P q x) l
+  all-each-of C P [] h = tt
+  all-each-of C P (x ∷ xs) h = ((λ q c. h q c .0), all-each-of C P xs (λ q c. h q c .1))
+
   pub all-each : (P : A → Type 0) → ((x : A) → P x) → (l : List A) → All P l
   all-each P h [] = tt
   all-each P h (x ∷ xs) = (h x, all-each P h xs)

@@ -1,4 +1,4 @@
--- Regions that may go together leave a valid model, and so does an accepted delete.
+-- Regions that may go together leave a valid model, and so does an accepted delete, single or joint.
 -- Assumes nothing.
 use mathlib.Core.Path.{_≡_, refl, ap, _∙_}
 use mathlib.Core.Logic.{_≢_}
@@ -14,14 +14,14 @@ use Rattle.lists.specs.Laws.All.{all-map, all-both, all₂-both}
 use Rattle.lists.specs.Laws.Sums.{length-keep, count-most}
 use Rattle.lists.specs.Laws.Finds.{all-keep}
 use Rattle.lists.specs.Laws.Kept.{all-among}
-use Rattle.model.specs.Model.{Model, Object, Region, live, parentOf, marks, livesIn, homeIn, parentIn, above, rule, delete}
+use Rattle.model.specs.Model.{Model, Object, Region, live, parentOf, marks, livesIn, homeIn, parentIn, above, rule, delete, deleteAll}
 use Rattle.model.specs.Calls.{refusal, accepted, others, removeRegions}
 use Rattle.model.specs.Valid.{Valid, ValidObject, ValidParent, known}
 use Rattle.model.specs.Laws.Climb.{climb-all, climb-same}
 use Rattle.model.specs.Laws.Slots.{ValidIn}
 use Rattle.model.specs.Laws.Grows.{known-moved, fine-moved}
 use Rattle.model.specs.Laws.Regions.{live-others, region-others, level-others, not-removed, lived-before, distinct-keep}
-use Rattle.model.specs.Laws.Removable.{Removable, Away, parent-away, removable-one}
+use Rattle.model.specs.Laws.Removable.{Removable, Away, parent-away, removable-one, removable-all}
 
 -- A word in a region q, where neither q nor a region above it is a member, that keeps its mark's rule leads into no member, if it does not where it is marked 1.
 word-away : (home : ℕ → ℕ) (us rs : List ℕ) (q k p : ℕ) → among 1 rs ≡ false → among q rs ≡ false → All (λ u. among u rs ≡ false) us → (eqb k 1 ≡ true → among (home p) rs ≡ false)
@@ -101,6 +101,10 @@ module _ (L : Model) (v : Valid L) (rs : List ℕ) (m : Removable L rs) where
     where
       away : (u n : ℕ) → (among u rs ≡ true → among n rs ≡ true) → not (among n rs) ≡ true → among u rs ≡ false
       away u n c e = by-test (among u rs) (λ t. absurd (false≢true (rw (c t) at e))) (λ t. t)
+
+pub delete-all-valid : (L : Model) → Valid L → (rs : List ℕ) → refusal L (deleteAll rs) ≡ 0 → Valid (accepted L (deleteAll rs))
+unfolding accepted
+delete-all-valid L v rs e = remove-valid L v rs (removable-all L rs e)
 
 pub delete-valid : (L : Model) → Valid L → (r : ℕ) → refusal L (delete r) ≡ 0 → Valid (accepted L (delete r))
 unfolding accepted

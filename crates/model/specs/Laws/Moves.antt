@@ -17,7 +17,7 @@ use Rattle.model.specs.Moves.{weighs, moves, movesBy}
 use Rattle.model.specs.Laws.Passed.{passed}
 use Rattle.model.specs.Laws.Regions.{live-positive, not-removed}
 use Rattle.model.specs.Laws.Slots.{pop-valid}
-use Rattle.model.specs.Laws.Removable.{removable-one}
+use Rattle.model.specs.Laws.Removable.{removable-one, removable-all}
 use Rattle.model.specs.Laws.Grows.{made-valid}
 use Rattle.model.specs.Laws.Next.{accepted-valid}
 use Rattle.model.specs.Laws.Counts.{fill-stored, push-stored, pop-stored, write-stored, declare-stored, region-stored, object-stored, remove-stored}
@@ -67,6 +67,7 @@ module _ (L : Model) (r : ℕ) (v : Valid L) where
   accepted-stored totals e l = refl
   accepted-stored audit e l = refl
   accepted-stored (delete q) e l = remove-stored L v (q ∷ []) (removable-one L q e) r (not-removed (L .regions) (q ∷ []) r l)
+  accepted-stored (deleteAll qs) e l = remove-stored L v qs (removable-all L qs e) r (not-removed (L .regions) qs r l)
 
   pub next-stored : (c : Call) → livesIn (next L c) r ≡ true → stored (next L c) r + (movesBy (refusal L c) L c r) .1 ≡ stored L r + (movesBy (refusal L c) L c r) .0
   unfolding next

@@ -9,7 +9,7 @@ use Rattle.model.specs.Calls.{refusal, accepted, next, nextBy, after, fr
 use Rattle.model.specs.Valid.{Valid}
 use Rattle.model.specs.Laws.Slots.{push-valid, pop-valid, hand-valid, clear-valid, copy-valid, fetch-valid, load-valid, first-valid, set-valid, put-valid}
 use Rattle.model.specs.Laws.Grows.{declare-valid, new-valid, sub-valid, allocate-valid}
-use Rattle.model.specs.Laws.Deletes.{delete-valid}
+use Rattle.model.specs.Laws.Deletes.{delete-valid, delete-all-valid}
 
 pub accepted-valid : (L : Model) (c : Call) → Valid L → refusal L c ≡ 0 → Valid (accepted L c)
 unfolding accepted
@@ -35,6 +35,7 @@ accepted-valid L (report r) v e = v
 accepted-valid L totals v e = v
 accepted-valid L audit v e = v
 accepted-valid L (delete r) v e = delete-valid L v r e
+accepted-valid L (deleteAll rs) v e = delete-all-valid L v rs e
 
 pub next-valid : (L : Model) (c : Call) → Valid L → Valid (next L c)
 unfolding next

@@ -21,7 +21,7 @@ use Rattle.model.specs.Paged.{Paged, Lies, space, spaceOf}
 use Rattle.model.specs.Laws.Passed.{passed}
 use Rattle.model.specs.Laws.Regions.{distinct-one, sum-others}
 use Rattle.model.specs.Laws.Grows.{change}
-use Rattle.model.specs.Laws.Removable.{Removable, removable-one}
+use Rattle.model.specs.Laws.Removable.{Removable, removable-one, removable-all}
 use Rattle.model.specs.Laws.Next.{next-valid}
 use Rattle.model.specs.Laws.Counts.{outside-stored}
 
@@ -138,6 +138,7 @@ accepted-paged L v p (report r) e = p
 accepted-paged L v p totals e = p
 accepted-paged L v p audit e = p
 accepted-paged L v p (delete r) e = remove-paged L p v (r ∷ []) (removable-one L r e)
+accepted-paged L v p (deleteAll rs) e = remove-paged L p v rs (removable-all L rs e)
 
 pub next-paged : {N : ℕ} (L : Model) → Valid L → Paged N L → (c : Call) → Paged N (next L c)
 unfolding next

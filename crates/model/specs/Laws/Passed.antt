@@ -2,15 +2,15 @@
 -- Assumes nothing.
 use mathlib.Core.Path.{_≡_, refl}
 use mathlib.Core.Bool.{Bool, true, false}
-use mathlib.Core.List.{List, [], _∷_}
+use mathlib.Core.List.{List, [], _∷_, _++_}
 use Prim.Native.Nat.{ℕ, _<_}
 use native.Mathlib.Omega.{arith}
-use lib.Dec.{ltb}
+use lib.Dec.{eqb, ltb}
 use borrow.Author.Tests.{ltb-true}
 use Rattle.lists.specs.Lists.{pick, every, All}
 use Rattle.lists.specs.Laws.Tests.{both}
 use Rattle.model.specs.Model.{Model, Call, declare, newRegion, subregion, push, dropFrame, handBack, allocate, first, copy, fetch, clear, load, setPointer, put, get, view, same, about, report, totals, audit, delete, deleteAll}
-use Rattle.model.specs.Calls.{checks, refusal, reason}
+use Rattle.model.specs.Calls.{checks, refusal, reason, dead, nameTests}
 
 abbrev pub positive : Bool × ℕ → Bool
 positive t = ltb 0 (t .1)
@@ -25,6 +25,19 @@ all-passed (t ∷ ts) p e =
     let q = both (positive t) (every positive ts) p in
     let r = one-passed (t .0) (t .1) (reason ts) (ltb-true 0 (t .1) (q .0)) e in
     (r .0, all-passed ts (q .1) (r .1))
+
+-- the tests of names in turn, with others after them
+pub names-numbers : (f : ℕ → Bool) → f 2 ≡ true → f 3 ≡ true → (gone : ℕ → Bool) (rs : List ℕ) (ts : List (Bool × ℕ)) → every (λ t. f (t .1)) ts ≡ true
+    → every (λ t. f (t .1)) (nameTests gone rs ++ ts) ≡ true
+unfolding nameTests
+names-numbers f a b gone [] ts h = h
+names-numbers f a b gone (r ∷ rs) ts h = rw (a, b) (names-numbers f a b gone rs ts h)
+
+pub names-passed : (gone : ℕ → Bool) (rs : List ℕ) (ts : List (Bool × ℕ)) → All (λ t. t .0 ≡ false) (nameTests gone rs ++ ts)
+    → All (λ r. (gone r ≡ false) × (eqb r 1 ≡ false)) rs × All (λ t. t .0 ≡ false) ts
+unfolding nameTests
+names-passed gone [] ts h = (tt, h)
+names-passed gone (r ∷ rs) ts h = let q = names-passed gone rs ts (h .1 .1) in (((h .0, h .1 .0), q .0), q .1)
 
 numbers : (L : Model) (c : Call) → every positive (checks L c) ≡ true
 unfolding checks
@@ -50,6 +63,7 @@ numbers L (report r) = refl
 numbers L totals = refl
 numbers L audit = refl
 numbers L (delete r) = refl
+numbers L (deleteAll rs) = names-numbers (ltb 0) refl refl (dead L) rs _ refl
 
 -- in the tests' order: t .0, t .1 .0, t .1 .1 .0, .. of `passed L c e`
 pub passed : (L : Model) (c : Call) → refusal L c ≡ 0 → All (λ t. t .0 ≡ false) (checks L c)

@@ -1,22 +1,23 @@
 -- Regions that may go together: what an accepted delete has tested, said of a list of names.
 -- Assumes nothing.
-use mathlib.Core.Path.{_≡_, sym, ap, _∙_}
-use mathlib.Core.Bool.{Bool, true, false, true≢false, false≢true}
+use mathlib.Core.Path.{_≡_, refl, sym, ap, _∙_, fun-ext}
+use mathlib.Core.Bool.{Bool, true, false, not, _&&_, _||_, true≢false}
 use mathlib.Core.List.{List, [], _∷_}
-use Prim.Native.Nat.{ℕ, _≤_}
+use Prim.Native.Nat.{ℕ, _+_, _≤_}
 use native.Mathlib.Omega.{arith}
-use lib.Dec.{eqb}
-use borrow.Author.Tests.{eqb-true, not-false}
-use Rattle.lists.specs.Lists.{bit, sumOf, All, All₂, times, among}
-use Rattle.lists.specs.Laws.Tests.{by-test, bit-zero}
+use lib.Dec.{eqb, ltb}
+use lib.ListN.{length}
+use borrow.Author.Tests.{eqb-true, eq-eqb, ne-eqb, not-false}
+use Rattle.lists.specs.Lists.{bit, pick, every, sumOf, All, All₂, times, among, repeats}
+use Rattle.lists.specs.Laws.Tests.{by-test, neither, or-other, bit-zero}
 use Rattle.lists.specs.Laws.All.{all-map, all₂-map}
-use Rattle.lists.specs.Laws.Sums.{sum-zero, sum₂-zero, count-most}
-use Rattle.lists.specs.Laws.Finds.{all-found, find-none}
-use Rattle.lists.specs.Laws.Kept.{among-one, among-alone, all-among}
-use Rattle.model.specs.Model.{Model, Object, noRegion, called, marks, livesIn, homeIn, parentIn, into, freeInto, fromObject, inWords, inFrames, outside, subregions, delete}
-use Rattle.model.specs.Calls.{checks, refusal}
+use Rattle.lists.specs.Laws.Sums.{sum-zero, sum₂-zero}
+use Rattle.lists.specs.Laws.Finds.{all-found, find-none, any-false, false-any, every-true, true-every}
+use Rattle.lists.specs.Laws.Kept.{among-alone, all-among, repeats-once, all-each-of, all₂-each-of}
+use Rattle.model.specs.Model.{Model, Object, Region, noRegion, called, marks, livesIn, homeIn, parentIn, into, freeInto, fromObject, inWords, inFrames, outside, subregions, closed, outsideBut, delete, deleteAll}
+use Rattle.model.specs.Calls.{checks, refusal, dead, wrongNames}
 use Rattle.model.specs.Valid.{Valid}
-use Rattle.model.specs.Laws.Passed.{passed}
+use Rattle.model.specs.Laws.Passed.{passed, names-passed}
 use Rattle.model.specs.Laws.Regions.{live-zero, name-is}
 
 -- pointer p leads into no region that rs names
@@ -47,30 +48,92 @@ module _ {L : Model} {rs : List ℕ} (m : Removable L rs) where
         (λ l. by-test (among (parentIn L q) rs) (λ e. absurd (true≢false (sym (all-found _ (called q) noRegion (L .regions) (m .closed) l e) ∙ ap (λ x. among x rs) (name-is (L .regions) q l) ∙ n))) (λ e. e))
         (λ l. ap (λ g. among (g .parent) rs) (find-none (called q) noRegion (L .regions) l) ∙ zero-away)
 
--- ---- the list of one
+-- ---- what the tests of a delete have found
 
 from-zero : (lives : ℕ → Bool) (home : ℕ → ℕ) (ks : List (List ℕ)) (r : ℕ) (o : Object) → lives (o .home) ≡ true → eqb (o .home) r ≡ false → fromObject lives home ks r o ≡ 0
     → All₂ (λ k p. freeInto home r k p ≡ 0) (marks ks (o .kind)) (o .words)
 unfolding fromObject
 from-zero lives home ks r o l n e = sum₂-zero (freeInto home r) (marks ks (o .kind)) (o .words) (rw (l, n) at e)
 
+module _ (L : Model) (rs : List ℕ) where
+  abbrev Member : ℕ → Type 0
+  Member q = among q rs ≡ true
+
+  -- a pointer that leads into its own region, where that is a member, as little as nowhere
+  away : (p : ℕ) → (Member (homeIn L p) → into (homeIn L) (homeIn L p) p ≡ 0) → Away L rs p
+  away p h = by-test (among (homeIn L p) rs) (λ e. absurd (one (h e))) (λ e. e)
+    where
+      one : into (homeIn L) (homeIn L p) p ≡ 0 → ⊥
+      one z = true≢false (sym (eq-eqb (homeIn L p) (homeIn L p) refl) ∙ bit-zero (eqb (homeIn L p) (homeIn L p)) z)
+
+  apart : (h q : ℕ) → among h rs ≡ false → Member q → eqb h q ≡ false
+  apart h q n e = ne-eqb h q (λ z. true≢false (sym e ∙ ap (λ x. among x rs) (sym z) ∙ n))
+
+  -- no outside pointer of a member but in the words of members
+  module _ (none : All (λ r. outsideBut L rs r ≡ 0) rs) where
+    zero-of : (q : ℕ) → Member q → outsideBut L rs q ≡ 0
+    zero-of = all-among (λ r. outsideBut L rs r ≡ 0) rs none
+
+    slots-away : All (All (Away L rs)) (L .frames)
+    unfolding outsideBut inFrames
+    slots-away =
+        all-map (λ f h. all-map (λ p k. away p (k (homeIn L p))) f (all-each-of Member (λ q p. into (homeIn L) q p ≡ 0) f (λ q m. sum-zero (into (homeIn L) q) f (h q m)))) (L .frames)
+        (all-each-of Member (λ q f. sumOf (into (homeIn L) q) f ≡ 0) (L .frames) (λ q m. sum-zero (sumOf (into (homeIn L) q)) (L .frames) (omega (arith, zero-of q m))))
+
+    words-away : All (λ o. livesIn L (o .home) ≡ true → among (o .home) rs ≡ false → All₂ (λ k p. eqb k 1 ≡ true → Away L rs p) (marks (L .kinds) (o .kind)) (o .words)) (L .objects)
+    unfolding outsideBut
+    words-away =
+        all-map (λ o h l n. all₂-map (λ k p y one. away p (λ m. rw one at (y (homeIn L p) m))) (marks (L .kinds) (o .kind)) (o .words)
+        (all₂-each-of Member (λ q k p. freeInto (homeIn L) q k p ≡ 0) (marks (L .kinds) (o .kind)) (o .words)
+        (λ q m. from-zero (livesIn L) (homeIn L) (L .kinds) q o l (apart (o .home) q n m) (rw n at (h q m))))) (L .objects)
+        (all-each-of Member (λ q o. pick (among (o .home) rs) 0 (fromObject (livesIn L) (homeIn L) (L .kinds) q o) ≡ 0) (L .objects)
+        (λ q m. sum-zero (λ o. pick (among (o .home) rs) 0 (fromObject (livesIn L) (homeIn L) (L .kinds) q o)) (L .objects) (omega (arith, zero-of q m))))
+
+    removable-by : repeats rs ≡ false → All (λ r. (dead L r ≡ false) × (eqb r 1 ≡ false)) rs → closed (L .regions) rs ≡ true → Removable L rs
+    unfolding closed
+    removable-by d ns c = record {
+      distinct = repeats-once rs d;
+      live = all-map (λ r h. not-false (livesIn L r) (h .0)) rs ns;
+      notOne = false-any (λ r. eqb r 1) rs (all-map (λ r h. h .1) rs ns);
+      closed = all-map (λ g h a. or-other (not (among (g .parent) rs)) (among (g .name) rs) h (ap not a)) (L .regions)
+          (every-true (λ g. not (among (g .parent) rs) || among (g .name) rs) (L .regions) c);
+      slots = slots-away;
+      words = words-away;
+    }
+
+-- an accepted joint delete
+pub removable-all : (L : Model) (rs : List ℕ) → refusal L (deleteAll rs) ≡ 0 → Removable L rs
+unfolding checks wrongNames
+removable-all L rs e =
+    let c = passed L (deleteAll rs) e in
+    let n = names-passed (dead L) rs _ (c .1) in
+    let w = neither (eqb (length rs) 0 || ltb 16 (length rs)) (repeats rs) (c .0) in
+    removable-by L rs (all-map (λ r z. eqb-true (outsideBut L rs r) 0 (not-false (eqb (outsideBut L rs r) 0) z)) rs (any-false (λ r. not (eqb (outsideBut L rs r) 0)) rs (n .1 .1 .0)))
+    (w .1) (n .0) (not-false (closed (L .regions) rs) (n .1 .0))
+
+-- ---- the list of one
+
+-- its outside pointers are the region's: its own words are none of them
+pub outside-one : (L : Model) (r : ℕ) → outsideBut L (r ∷ []) r ≡ outside L r
+unfolding outsideBut outside inWords fromObject
+outside-one L r = ap (λ n. n + inFrames (homeIn L) r (L .frames)) (ap (λ f. sumOf f (L .objects)) (fun-ext own))
+  where
+    own : (o : Object) → pick (among (o .home) (r ∷ [])) 0 (fromObject (livesIn L) (homeIn L) (L .kinds) r o) ≡ fromObject (livesIn L) (homeIn L) (L .kinds) r o
+    own o = rw (among-alone (o .home) r) (go (eqb (o .home) r) (livesIn L (o .home)) _)
+      where
+        go : (a b : Bool) (n : ℕ) → pick a 0 (pick (b && not a) n 0) ≡ pick (b && not a) n 0
+        go true true n = refl
+        go true false n = refl
+        go false b n = refl
+
 pub removable-one : (L : Model) (r : ℕ) → refusal L (delete r) ≡ 0 → Removable L (r ∷ [])
-unfolding checks outside inWords inFrames
+unfolding checks closed
 removable-one L r e =
     let c = passed L (delete r) e in
     let subs = eqb-true (subregions L r) 0 (not-false (eqb (subregions L r) 0) (c .1 .1 .0)) in
     let out = eqb-true (outside L r) 0 (not-false (eqb (outside L r) 0) (c .1 .1 .1 .0)) in
-    record {
-      distinct = λ q. count-most (λ x. eqb x q) (r ∷ []);
-      live = (not-false (livesIn L r) (c .0), tt);
-      notOne = among-one 1 r ∙ c .1 .0;
-      closed = all-map (λ g z a. absurd (false≢true (sym (away (g .parent) z) ∙ a))) (L .regions) (sum-zero (λ g. bit (eqb (g .parent) r)) (L .regions) subs);
-      slots = all-map (λ f z. all-map (λ p. away (homeIn L p)) f (sum-zero (into (homeIn L) r) f z)) (L .frames)
-          (sum-zero (sumOf (into (homeIn L) r)) (L .frames) (omega (arith, out)));
-      words = all-map (λ o z l n. all₂-map (λ k p y one. away (homeIn L p) (rw one at y)) (marks (L .kinds) (o .kind)) (o .words)
-          (from-zero (livesIn L) (homeIn L) (L .kinds) r o l (sym (among-alone (o .home) r) ∙ n) z)) (L .objects)
-          (sum-zero (fromObject (livesIn L) (homeIn L) (L .kinds) r) (L .objects) (omega (arith, out)));
-    }
+    removable-by L (r ∷ []) (outside-one L r ∙ out, tt) refl ((c .0, c .1 .0), tt)
+    (true-every (λ g. not (among (g .parent) (r ∷ [])) || among (g .name) (r ∷ [])) (L .regions) (all-map none (L .regions) (sum-zero (λ g. bit (eqb (g .parent) r)) (L .regions) subs)))
   where
-    away : (q : ℕ) → bit (eqb q r) ≡ 0 → among q (r ∷ []) ≡ false
-    away q z = among-alone q r ∙ bit-zero (eqb q r) z
+    none : (g : Region) → bit (eqb (g .parent) r) ≡ 0 → (not (among (g .parent) (r ∷ [])) || among (g .name) (r ∷ [])) ≡ true
+    none g z = rw (among-alone (g .parent) r, bit-zero (eqb (g .parent) r) z)

@@ -48,6 +48,7 @@ wrote (report r) S a T e h = (0, [], ap (λ U. U .heap) (h .1), λ p l m. absurd
 wrote totals S a T e h = (0, [], ap (λ U. U .heap) (h .1), λ p l m. absurd (omega arith))
 wrote audit S a T e h = (0, [], ap (λ U. U .heap) (h .1), λ p l m. absurd (omega arith))
 wrote (delete r) S a T e h = (0, [], ap (λ U. U .heap) (h .1), λ p l m. absurd (omega arith))
+wrote (deleteAll rs) S a T e h = (0, [], ap (λ U. U .heap) (h .1), λ p l m. absurd (omega arith))
 
 -- the heap after any call
 heap-after : (c : Call) (S : Store) (a : Answer) (T : Store) → Outcome c S a T

@@ -8,11 +8,14 @@ use native.Mathlib.Omega.{arith}
 use lib.Dec.{eqb, ltb, leb}
 use lib.ListN.{length, replicate}
 use borrow.Author.Tests.{eqb-true, ltb-true, ltb-false, leb-false}
-use Rattle.lists.specs.Lists.{bit, pick, anyOf}
+use Rattle.lists.specs.Lists.{bit, pick, anyOf, repeats}
 use Rattle.lists.specs.Laws.Tests.{neither, both}
 use Rattle.lists.specs.Laws.All.{all-map, all-set, all-replicate}
 use Rattle.lists.specs.Laws.Finds.{any-false}
+use Rattle.lists.specs.Laws.Sums.{sum-most}
+use Rattle.lists.specs.Laws.Kept.{all-each}
 use Rattle.model.specs.Model.{Answer, Call, declare, newRegion, subregion, push, dropFrame, handBack, allocate, first, copy, fetch, clear, load, setPointer, put, get, view, same, about, report, totals, audit, delete, deleteAll, gives}
+use Rattle.model.specs.Calls.{wrongNames}
 use Rattle.frames.specs.declared.Frames.{Frames}
 use Rattle.frames.specs.Frames.{topFrame}
 use Rattle.kinds.specs.declared.Kinds.{Kinds}
@@ -20,7 +23,7 @@ use Rattle.kinds.specs.Kinds.{kindCount, sizeOf, wrongMarks}
 use Rattle.regions.specs.declared.Regions.{Regions}
 use Rattle.regions.specs.Regions.{entryOf, tagOf, isLive, newestAt, oldestAt, levelAt}
 use Rattle.pages.specs.declared.Pages.{Pages}
-use Rattle.pages.specs.Pages.{pageCount, isFree, takenAt}
+use Rattle.pages.specs.Pages.{pageCount, isFree, takenAt, pagesOf}
 use Rattle.outcomes.specs.Store.{Store, frames, kinds, regions, pages, slot, size, roomy, roomyIn}
 use Rattle.outcomes.specs.Sound.{sound}
 use Rattle.outcomes.specs.Shape.{FramesBounded, KindsBounded, RegionsBounded, PagesBounded, Bounded, Bits32}
@@ -168,7 +171,7 @@ bit-below true = omega arith
 bit-below false = omega arith
 
 accepted-keeps : (c : Call) (S : Store) (a : Answer) (T : Store) → Sent c → Bounded S → refusal S c ≡ 0 → Accepted c S a T → Bounded T × Bits32 (a .values)
-unfolding Accepted checks namesOut wrongMarks
+unfolding Accepted checks namesOut wrongMarks wrongNames
 accepted-keeps (declare ms) S a T x h e q =
     let t = passed S (declare ms) e in
     let d = leb-false 16 ((kinds S) .declared) (t .1 .1 .0) in
@@ -219,6 +222,12 @@ accepted-keeps totals S a T x h e q =
     both-of a _ T _ q h (four-small _ _ _ _ (omega (arith, pages-below (pages S) 0)) (omega (arith, live-below (regions S))) (h .inFrames .standing) (h .inFrames .counted))
 accepted-keeps audit S a T x h e q = both-of a _ T _ q h (one _ (bit-below (sound S)))
 accepted-keeps (delete r) S a T x h e q = both-of a _ T _ q (deleted-bounded S h (r ∷ [])) (one _ (omega (arith, pages-below (pages S) (tagOf (regions S) r))))
+accepted-keeps (deleteAll rs) S a T x h e q =
+    let t = passed S (deleteAll rs) e in
+    let m = neither (eqb (length rs) 0 || ltb 16 (length rs)) (repeats rs) (t .1 .0) in
+    let n = neither (eqb (length rs) 0) (ltb 16 (length rs)) (m .0) in
+    let most = sum-most (λ r. pagesOf (pages S) (tagOf (regions S) r)) 256 rs (all-each _ (λ r. pages-below (pages S) (tagOf (regions S) r)) rs) in
+    both-of a _ T _ q (deleted-bounded S h rs) (one _ (omega (arith, most, ltb-false 16 (length rs) (n .1))))
 
 keeps-bounds : (c : Call) (S : Store) (a : Answer) (T : Store) → Sent c → Bounded S → Outcome c S a T → Bounded T × Bits32 (a .values)
 unfolding Outcome

@@ -12,10 +12,11 @@ use Rattle.lists.specs.Lists.{pick, every}
 use Rattle.lists.specs.Laws.Tests.{both}
 use Rattle.model.specs.Model.{Call, declare, newRegion, subregion, push, dropFrame, handBack, allocate, first, copy, fetch, clear, load, setPointer, put, get, view, same, about, report, totals, audit, delete, deleteAll}
 use Rattle.model.specs.Calls.{reason, _yields_}
+use Rattle.model.specs.Laws.Passed.{names-numbers}
 use Rattle.pages.specs.Pages.{wrongLength, wrongLengthIn}
 use Rattle.outcomes.specs.Store.{Store, pages}
 use Rattle.outcomes.specs.Sound.{Sound}
-use Rattle.outcomes.specs.Outcome.{Outcome, Answered, badLength, checks, refusal}
+use Rattle.outcomes.specs.Outcome.{Outcome, Answered, badLength, dead, checks, refusal}
 use Rattle.promises.specs.Promises.{LengthFirst, Refusals}
 use Rattle.promises.specs.Laws.Refused.{refusals}
 
@@ -47,6 +48,7 @@ first-test S (report r) nt na = (_, refl, refl)
 first-test S totals nt na = absurd (nt refl)
 first-test S audit nt na = absurd (na refl)
 first-test S (delete r) nt na = (_, refl, refl)
+first-test S (deleteAll rs) nt na = (_, refl, names-numbers (λ n. not (eqb n 21)) refl refl (dead S) rs _ refl)
 
 never : (ts : List (Bool × ℕ)) → every other ts ≡ true → reason ts ≢ 21
 unfolding other

@@ -2,11 +2,12 @@
 -- Assumes nothing.
 use mathlib.Core.Path.{_≡_, refl}
 use mathlib.Core.Bool.{true, false}
+use lib.Dec.{ltb}
 use Rattle.lists.specs.Lists.{every, All}
 use Rattle.model.specs.Model.{Call, declare, newRegion, subregion, push, dropFrame, handBack, allocate, first, copy, fetch, clear, load, setPointer, put, get, view, same, about, report, totals, audit, delete, deleteAll}
-use Rattle.model.specs.Laws.Passed.{positive, all-passed}
+use Rattle.model.specs.Laws.Passed.{positive, all-passed, names-numbers}
 use Rattle.outcomes.specs.Store.{Store}
-use Rattle.outcomes.specs.Outcome.{checks, refusal}
+use Rattle.outcomes.specs.Outcome.{checks, refusal, dead}
 
 numbers : (S : Store) (c : Call) → every positive (checks S c) ≡ true
 unfolding checks
@@ -32,6 +33,7 @@ numbers S (report r) = refl
 numbers S totals = refl
 numbers S audit = refl
 numbers S (delete r) = refl
+numbers S (deleteAll rs) = names-numbers (ltb 0) refl refl (dead S) rs _ refl
 
 pub passed : (S : Store) (c : Call) → refusal S c ≡ 0 → All (λ t. t .0 ≡ false) (checks S c)
 unfolding refusal

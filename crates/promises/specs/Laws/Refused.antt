@@ -63,6 +63,7 @@ zero-of (report r) S a T q = ap (λ x. x .refusal) (q .0)
 zero-of totals S a T q = ap (λ x. x .refusal) (q .0)
 zero-of audit S a T q = ap (λ x. x .refusal) (q .0)
 zero-of (delete r) S a T q = ap (λ x. x .refusal) (q .0)
+zero-of (deleteAll rs) S a T q = ap (λ x. x .refusal) (q .0)
 
 pub refusals : Refusals
 unfolding Refusals Outcome
@@ -126,6 +127,7 @@ accepts (report r) S e = (_, _, (refl, refl))
 accepts totals S e = (_, _, (refl, refl))
 accepts audit S e = (_, _, (refl, refl))
 accepts (delete r) S e = (_, _, (refl, refl))
+accepts (deleteAll rs) S e = (_, _, (refl, refl))
 
 pub total : Total
 unfolding Total Outcome

@@ -94,6 +94,7 @@ accepted-sized (report r) S a T h q = subst⁻¹ Sized (q .1) h
 accepted-sized totals S a T h q = subst⁻¹ Sized (q .1) h
 accepted-sized audit S a T h q = subst⁻¹ Sized (q .1) h
 accepted-sized (delete r) S a T h q = subst⁻¹ Sized (q .1) (deleted-sized S h (r ∷ []))
+accepted-sized (deleteAll rs) S a T h q = subst⁻¹ Sized (q .1) (deleted-sized S h rs)
 
 pub keeps-size : (c : Call) (S : Store) (a : Answer) (T : Store) → Sized S → Outcome c S a T → Sized T
 unfolding Outcome
