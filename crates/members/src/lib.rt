@@ -65,10 +65,10 @@ pub fn mark<'a>(names: &'a [u32], list: &'a [u32], members: &mut [u8]) -> u32
     ensures { λ r. ⌜ (r ≡ reason (nameTests (deadIn (now (names .entry))) (now (list .entry)))) × (now (members .exit) ≡ marking (now (members .entry)) (map (tagIn (now (names .entry))) (now (list .entry)))) ⌝ }
 {
     let mut g: u32 = 0;
-    let mut i: usize = 0;
-    while i < list.len() {
-        let n = list[i];
-        i += 1;
+    let mut j: usize = 0;
+    while j < list.len() {
+        let n = list[j];
+        j += 1;
         let e = regions::entry_of(names, n);
         if g == 0 {
             g = name_refusal(e, n);
