@@ -1,4 +1,4 @@
--- What document 02's cards promise beside the demands, most of it after every list of calls from every start. Each is a type; the theorems are in Laws.Later.
+-- What document 02's cards promise beside the demands, most of it after every list of calls from every start. Each is a type; the theorems are in Laws: Later for card 1, Together and JointOfOne for card 2.
 -- Assumes nothing.
 use mathlib.Core.Path.{_≡_}
 use mathlib.Core.Logic.{_↔_, _≢_, _⊎_}

@@ -8,5 +8,7 @@ pub mod Demand2
 pub mod Opening
 pub mod Demand3
 pub mod Later
+pub mod JointOfOne
 pub mod Table
 pub mod Cases
+pub mod Together

@@ -23,11 +23,15 @@ none-left l i h = drop-of-length-le l {i = i} h
 abbrev pub orElse : ℕ → ℕ → ℕ
 orElse g h = pick (eqb g 0) h g
 
+-- one that is not 0 decides
+pub decided : (g h k : ℕ) → (g ≡ 0 → ⊥) → orElse g h ≡ orElse g k
+decided g h k d = rw (ne-eqb g 0 d)
+
 -- the first refusal of the names left
 abbrev pub refused : List ℕ → List ℕ → ℕ
 refused names l = reason (nameTests (deadIn names) l)
 
-pub refused-next : (names : List ℕ) (n : ℕ) (l : List ℕ) → refused names (n ∷ l) ≡ orElse (nameRefusal (entryIn names n) n) (refused names l)
+refused-next : (names : List ℕ) (n : ℕ) (l : List ℕ) → refused names (n ∷ l) ≡ orElse (nameRefusal (entryIn names n) n) (refused names l)
 unfolding nameTests deadIn nameRefusal
 refused-next names n l = go (not (ltb (entryIn names n) 64)) (eqb n 1) (refused names l)
   where
@@ -56,13 +60,13 @@ module _ (l : List ℕ) (i : ℕ) (h : i < length l) where
   pub once : among (getD l i 0) (drop (i + 1) l) ≡ false → repeats (drop i l) ≡ repeats (drop (i + 1) l)
   once e = rw (next, e)
 
-  module _ (names : List ℕ) where
-    pub decides : (g : ℕ) → (g ≡ 0 → ⊥) → orElse g (refused names (drop (i + 1) l)) ≡ orElse g (refused names (drop i l))
-    decides g e = rw (ne-eqb g 0 e)
+  -- n and e are what functions gave: the name come to, and its entry
+  module _ (names : List ℕ) (n e : ℕ) (come : n ≡ getD l i 0) (entry : e ≡ entryIn names n) where
+    -- g is the first number of the names passed, and r what a function gave for n
+    pub undecided : (g r : ℕ) → g ≡ 0 → r ≡ nameRefusal e n → orElse r (refused names (drop (i + 1) l)) ≡ orElse g (refused names (drop i l))
+    undecided g r z q = rw (z, q, entry, come, next) (sym (refused-next names (getD l i 0) (drop (i + 1) l)))
 
-    pub undecided : (g r : ℕ) → g ≡ 0 → r ≡ nameRefusal (entryIn names (getD l i 0)) (getD l i 0) → orElse r (refused names (drop (i + 1) l)) ≡ orElse g (refused names (drop i l))
-    undecided g r z e = rw (z, e, next) (sym (refused-next names (getD l i 0) (drop (i + 1) l)))
-
-    pub marks-next : (m : List ℕ) → marking (set m (tagIn names (getD l i 0)) 1) (map (tagIn names) (drop (i + 1) l)) ≡ marking m (map (tagIn names) (drop i l))
-    unfolding marking
-    marks-next m = rw next
+    -- ms are the marks that were left
+    pub marks-next : (m ms : List ℕ) → ms ≡ set m (e + 1) 1 → marking ms (map (tagIn names) (drop (i + 1) l)) ≡ marking m (map (tagIn names) (drop i l))
+    unfolding marking tagIn
+    marks-next m ms q = rw (q, entry, come, next)

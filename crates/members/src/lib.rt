@@ -1,8 +1,6 @@
 // The regions that a list names, known together: marks by tag, a byte that is not 0 for a member. What is wrong with the list itself, and with its names one by one.
 ghost use mathlib.Core.Path.{_≡_};
-ghost use mathlib.Core.Bool.{not};
 ghost use mathlib.Core.List.{map};
-ghost use lib.Dec.{ltb};
 ghost use lib.ListN.{drop};
 ghost use Rattle.lists.specs.Lists.{among};
 ghost use Rattle.model.specs.Calls.{reason, wrongNames, nameTests};
@@ -67,7 +65,7 @@ pub fn mark<'a>(names: &'a [u32], list: &'a [u32], members: &mut [u8]) -> u32
     let mut g: u32 = 0;
     let mut j: usize = 0;
     while j < list.len() {
-        let n = list[j];
+        let n = cells::word(list, j);
         j += 1;
         let e = regions::entry_of(names, n);
         if g == 0 {

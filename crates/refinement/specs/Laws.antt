@@ -3,7 +3,6 @@ pub mod Tags
 pub mod Reads
 pub mod Kept
 pub mod Counts
-pub mod Refusals
 pub mod Slots
 pub mod Stack
 pub mod Words
@@ -14,3 +13,5 @@ pub mod Grow
 pub mod Places
 pub mod Allocate
 pub mod Delete
+pub mod Together
+pub mod Refusals

@@ -1,19 +1,24 @@
 -- Demand 3's statements hold of a store that represents a valid model, whose counts are small, and a history that tells of it.
 -- Assumes nothing.
-use mathlib.Core.Path.{_≡_, sym, ap, _∙_, subst}
+use mathlib.Core.Path.{_≡_, refl, sym, ap, _∙_, subst}
 use mathlib.Core.Logic.{_↔_, _≢_}
-use mathlib.Core.Bool.{true}
-use mathlib.Core.List.{List}
+use mathlib.Core.Bool.{Bool, true, false, not, _&&_}
+use mathlib.Core.List.{List, [], _∷_, _++_}
 use Prim.Native.Nat.{ℕ, _≤_}
 use native.Mathlib.Omega.{arith}
+use lib.Dec.{eqb}
 use lib.ListN.{getD}
-use borrow.Author.Tests.{eqb-true, ne-eqb, not-false}
-use Rattle.model.specs.Model.{Model, Answer, report, delete, livesIn, outside}
-use Rattle.model.specs.Calls.{checks, refusal}
+use borrow.Author.Tests.{eqb-true, eq-eqb, ne-eqb, not-false, not-true}
+use Rattle.lists.specs.Lists.{anyOf, every, All}
+use Rattle.lists.specs.Laws.Tests.{both}
+use Rattle.lists.specs.Laws.All.{all-map}
+use Rattle.lists.specs.Laws.Finds.{any-false, false-any, every-true}
+use Rattle.model.specs.Model.{Model, Answer, report, delete, deleteAll, livesIn, outside, outsideBut}
+use Rattle.model.specs.Calls.{reason, wrongNames, nameTests, dead, checks, refusal}
 use Rattle.model.specs.Valid.{Valid}
-use Rattle.model.specs.Laws.Passed.{passed}
+use Rattle.model.specs.Laws.Passed.{passed, names-passed}
 use Rattle.outcomes.specs.Store.{Store, regions, pages}
-use Rattle.outcomes.specs.History.{History, storedCount, subregions}
+use Rattle.outcomes.specs.History.{History, isLive, storedCount, subregions}
 use Rattle.outcomes.specs.History as history
 use Rattle.outcomes.specs.Outcome.{Accepted, Answered, Outcome}
 use Rattle.promises.specs.Promises.{Refusals}
@@ -21,10 +26,16 @@ use Rattle.promises.specs.Laws.Refused.{refusals}
 use Rattle.refinement.specs.Represents.{Represents}
 use Rattle.refinement.specs.Laws.Report as report
 use Rattle.refinement.specs.Laws.Refusals.{refusals-agree}
-use Rattle.demands.specs.Demands.{Holds}
-use Rattle.histories.specs.Laws.Tells.{Tells, live-is, subregions-are}
-use Rattle.histories.specs.Laws.Pointers.{slots-lead, words-lead, outside-is, uncounted-is}
+use Rattle.demands.specs.Demands.{named, Holds}
+use Rattle.histories.specs.Laws.Tells.{Tells, live-is, subregions-are, closed-is}
+use Rattle.histories.specs.Laws.Pointers.{slots-lead, words-lead, outside-is, outside-but-is, uncounted-is}
 use Rattle.histories.specs.Laws.TellsPages.{TellsPages, pages-held}
+
+-- names that all pass: the tests after them decide
+names-go : (gone : ℕ → Bool) (rs : List ℕ) (ts : List (Bool × ℕ)) → All (λ r. (gone r ≡ false) × (eqb r 1 ≡ false)) rs → reason (nameTests gone rs ++ ts) ≡ reason ts
+unfolding nameTests
+names-go gone [] ts h = refl
+names-go gone (r ∷ rs) ts h = rw (h .0 .0, h .0 .1) (names-go gone rs ts (h .1))
 
 module _ {L : Model} {sp : List ℕ} {ids : ℕ → List ℕ} {S : Store} {h : History} (v : Valid L) (rep : Represents L sp ids S) (t : Tells L sp h) (u : TellsPages h ((regions S) .names) (pages S)) (small : (r : ℕ) → outside L r ≤ 16640) where
   outside-told : (r : ℕ) → history.outside h S r ≡ outside L r
@@ -35,17 +46,38 @@ module _ {L : Model} {sp : List ℕ} {ids : ℕ → List ℕ} {S : Store} {h : H
   unfolding Outcome Accepted storedCount refusal checks
   reported r l a T o =
       let e : refusal L (report r) ≡ 0 = rw l in
-      let q = subst (λ n. Answered n (report r) S a T) (refusals-agree v rep (report r) ∙ e) o in
+      let q = subst (λ n. Answered n (report r) S a T) (refusals-agree v rep small (report r) ∙ e) o in
       let out = report.outside-is S v rep r l (small r) in
       (ap (λ a. a .refusal) (q .0), ap (λ a. getD (a .values) 0 0) (q .0), ap (λ a. getD (a .values) 1 0) (q .0) ∙ out ∙ sym (outside-told r))
 
   deleted : (r : ℕ) → livesIn L r ≡ true → r ≢ 1 → (a : Answer) (T : Store) → Outcome (delete r) S a T → (a .refusal ≡ 0) ↔ ((subregions h r ≡ 0) × (history.outside h S r ≡ 0))
   unfolding Refusals refusal checks
   deleted r l d a T o =
-      let e = refusals (delete r) S a T o .0 ∙ refusals-agree v rep (delete r) in
+      let e = refusals (delete r) S a T o .0 ∙ refusals-agree v rep small (delete r) in
       rw (e, subregions-are t r, outside-told r) (
         (λ z. let q = passed L (delete r) z in (eqb-true _ 0 (not-false _ (q .1 .1 .0)), eqb-true _ 0 (not-false _ (q .1 .1 .1 .0)))),
         (λ z. rw (l, ne-eqb r 1 d, z .0, z .1)),
+      )
+
+  -- a list past 22, 2 and 3
+  past : (l : List ℕ) → named h l ≡ true → (wrongNames l ≡ false) × All (λ r. (livesIn L r ≡ true) × (eqb r 1 ≡ false)) l
+  past l n =
+      let p = both (not (wrongNames l)) (every (λ r. isLive h r && not (eqb r 1)) l) n in
+      (not-true (wrongNames l) (p .0), all-map (λ r e. let q = both (isLive h r) (not (eqb r 1)) e in (sym (live-is t r) ∙ q .0, not-true (eqb r 1) (q .1))) l (every-true (λ r. isLive h r && not (eqb r 1)) l (p .1)))
+
+  together : (l : List ℕ) → named h l ≡ true → (a : Answer) (T : Store) → Outcome (deleteAll l) S a T
+      → (a .refusal ≡ 0) ↔ ((history.closed h l ≡ true) × All (λ r. history.outsideBut h S l r ≡ 0) l)
+  unfolding Refusals refusal checks
+  together l n a T o =
+      let p = past l n in
+      let e = refusals (deleteAll l) S a T o .0 ∙ refusals-agree v rep small (deleteAll l) in
+      let none : (r : ℕ) → history.outsideBut h S l r ≡ outsideBut L l r = λ r. outside-but-is S t v (rep .onFrames) (rep .onObjects) r l in (
+        (λ z.
+            let q = names-passed (dead L) l _ (passed L (deleteAll l) (sym e ∙ z) .1) in
+            (closed-is t l ∙ not-false _ (q .1 .0), all-map (λ r f. none r ∙ eqb-true _ 0 (not-false _ f)) l (any-false _ l (q .1 .1 .0)))),
+        (λ z.
+            e ∙ rw (p .0) (names-go (dead L) l _ (all-map (λ r k. (ap not (k .0), k .1)) l (p .1))
+            ∙ rw (sym (closed-is t l) ∙ z .0, false-any (λ r. not (eqb (outsideBut L l r) 0)) l (all-map (λ r f. ap not (eq-eqb _ 0 (sym (none r) ∙ f))) l (z .1))))),
       )
 
   pub holds : Holds h S
@@ -57,4 +89,5 @@ module _ {L : Model} {sp : List ℕ} {ids : ℕ → List ℕ} {S : Store} {h : H
     pages = pages-held (rep .onRegions) (rep .onPages) t u;
     reports = λ r l. reported r (sym (live-is t r) ∙ l);
     deletes = λ r l. deleted r (sym (live-is t r) ∙ l);
+    together = together;
   }

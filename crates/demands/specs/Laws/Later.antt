@@ -15,10 +15,11 @@ use Rattle.lists.specs.Laws.Tests.{by-test, both, or-right, or-other}
 use Rattle.lists.specs.Laws.All.{all-map, all-both}
 use Rattle.lists.specs.Laws.Finds.{any-map, every-true, all-found, find-none, false-any}
 use Rattle.lists.specs.Laws.Kept.{all-each}
-use Rattle.model.specs.Model.{Model, Answer, setPointer, region, slot as modelSlot, inSlot, slotMarks, markAt, top, topPlace, livesIn, homeIn, parentIn, climb, rule, allowed}
+use Rattle.model.specs.Model.{Model, Answer, setPointer, region, slot as modelSlot, inSlot, slotMarks, markAt, top, topPlace, livesIn, homeIn, parentIn, climb, rule, allowed, outside}
 use Rattle.model.specs.Calls.{checks, refusal, lacks, noFrame, null, noWord}
 use Rattle.model.specs.Valid.{Valid}
 use Rattle.model.specs.Laws.Regions.{live-zero}
+use Rattle.model.specs.Laws.Paged.{outside-bound}
 use Rattle.model.specs.Laws.Slots.{Known, slot-lives}
 use Rattle.model.specs.Laws.Climb.{climb-top, parent-lives, level-some, level-deep, level-falls}
 use Rattle.regions.specs.declared.Regions.{Regions}
@@ -255,13 +256,13 @@ module _ {L : Model} {sp : List ℕ} {ids : ℕ → List ℕ} {S : Store} {h : H
     unfolding refusal checks
     tested = rw (some-frame, has s in₁, has p in₂, led, has-word, marked)
 
-    sets-up : (a : Answer) (T : Store) → Outcome (setPointer s w p) S a T
+    sets-up : ((r : ℕ) → outside L r ≤ 16640) → (a : Answer) (T : Store) → Outcome (setPointer s w p) S a T
         → let Allowed = (slot S p ≡ 0) ⊎ Reached h (homeOf h (slot S s)) (homeOf h (slot S p)) in ((a .refusal ≡ 0) × Allowed) ⊎ ((a .refusal ≡ 17) × (Allowed → ⊥))
     unfolding Refusals
-    sets-up a T o =
+    sets-up small a T o =
         let q = modelSlot L s in
         let x = modelSlot L p in
-        let e = refusals (setPointer s w p) S a T o .0 ∙ refusals-agree v rep (setPointer s w p) ∙ tested in
+        let e = refusals (setPointer s w p) S a T o .0 ∙ refusals-agree v rep small (setPointer s w p) ∙ tested in
         let f = allows-up q x lives (top-known v p) in
         rw (slot-is rep s (has s in₁), slot-is rep p (has p in₂), home-is t v (rep .onObjects) q (top-known v s), home-is t v (rep .onObjects) x (top-known v p))
         (by-test (allowed (parentIn L) (homeIn L) ((inSlot L s) .home) 3 x)
@@ -277,7 +278,7 @@ any-height S h s es T r =
       ends = over (history h es) (tree-told (g .valid) (g .represents) (k .tells));
       reaches = reached (history h es) (tree-told (g .valid) (g .represents) (k .tells));
       words = climbed (g .valid) (g .represents) (k .tells);
-      sets = λ s w p a T o i j m. sets-up (g .valid) (g .represents) (k .tells) s w p i j m a T o;
+      sets = λ s w p a T o i j m. sets-up (g .valid) (g .represents) (k .tells) s w p i j m (outside-bound _ (g .valid) (g .paged) (g .few)) a T o;
     }
 
 pub audits-height : AuditsHeight

@@ -16,7 +16,7 @@ use Rattle.model.specs.Calls.{checks, refusal, noFrame, lacks, reply, accepted,
 use Rattle.model.specs.Valid.{Valid}
 use Rattle.model.specs.Paged.{Paged}
 use Rattle.model.specs.Laws.Passed.{passed}
-use Rattle.model.specs.Laws.Removable.{removable-one}
+use Rattle.model.specs.Laws.Removable.{removable-one, removable-all}
 use Rattle.model.specs.Laws.Next.{next-valid}
 use Rattle.model.specs.Laws.Paged.{next-paged, stored-bound, outside-bound}
 use Rattle.frames.specs.Frames.{topFrame, slotAt, putSlot}
@@ -42,7 +42,7 @@ use Rattle.refinement.specs.Laws.Words.{put-step, pointer-step}
 use Rattle.refinement.specs.Laws.Grow.{declare-step, new-step, sub-step}
 use Rattle.refinement.specs.Laws.Allocate.{joined, chosen-page, allocated-represents}
 use Rattle.refinement.specs.Laws.Report.{report-step}
-use Rattle.refinement.specs.Laws.Delete.{delete-step}
+use Rattle.refinement.specs.Laws.Delete.{delete-step, delete-all-step}
 use Rattle.audited.specs.Laws.Audited.{audited}
 use Rattle.audited.specs.Laws.Good.{Good, lists, lists-pages}
 use Rattle.demands.specs.Told.{told, slotAfter, note, noteBy, history, born, popped, objectMade}
@@ -174,6 +174,10 @@ module _ {N : ℕ} {L : Model} {S : Store} {h : History} (k : Told N L S h) (a :
       let m = removable-one L r e in
       stays (delete r) (delete-step L _ _ S v rep a T r (outside-bound L v (g .paged) (g .few)) e q) (remove-told t (r ∷ []))
       (rw (q .1, deleted-names S (r ∷ [])) (ended-pages (rep .onRegions) (rep .onPages) u (r ∷ []) (m .live) (m .distinct)))
+  accepted-told (deleteAll rs) e q =
+      let m = removable-all L rs e in
+      stays (deleteAll rs) (delete-all-step L _ _ S v rep a T rs (outside-bound L v (g .paged) (g .few)) e q) (remove-told t rs)
+      (rw (q .1, deleted-names S rs) (ended-pages (rep .onRegions) (rep .onPages) u rs (m .live) (m .distinct)))
 
 -- ---- any call
 
@@ -184,7 +188,7 @@ told-step {N} {L} {S} {h} k e o = subst⁻¹ (λ n. (e .answer ≡ answerBy (ref
     (go (refusal L (e .call)) refl (subst (λ n. Answered n (e .call) S (e .answer) (e .left)) agree o))
   where
     agree : storeRefusal S (e .call) ≡ refusal L (e .call)
-    agree = refusals-agree (k .good .valid) (k .good .represents) (e .call)
+    agree = refusals-agree (k .good .valid) (k .good .represents) (outside-bound L (k .good .valid) (k .good .paged) (k .good .few)) (e .call)
 
     whole : (n : ℕ) → refusal L (e .call) ≡ n → (sp : List ℕ) (ids : ℕ → List ℕ) → Represents (nextBy n L (e .call)) sp ids (e .left) → Tells (nextBy n L (e .call)) sp (noteBy n e h)
         → TellsPages (noteBy n e h) ((regions (e .left)) .names) (pages (e .left)) → Told N (nextBy n L (e .call)) (e .left) (noteBy n e h)

@@ -8,13 +8,13 @@ use native.Mathlib.Omega.{arith}
 use lib.Dec.{eqb, leb}
 use lib.ListN.{length, getD, take}
 use borrow.Author.Tests.{eqb-true, ne-eqb, not-true}
-use Rattle.lists.specs.Lists.{bit, pick, every, keep, sumOf, upTo}
+use Rattle.lists.specs.Lists.{bit, pick, every, keep, sumOf, upTo, among}
 use Rattle.lists.specs.Laws.Tests.{by-test, both, or-right, pick-same}
 use Rattle.lists.specs.Laws.All.{all-map, all-change, all₂-in}
 use Rattle.lists.specs.Laws.Sums.{sum-map, sum-keep}
 use Rattle.lists.specs.Laws.Finds.{true-every, all-keep, getD-map-in}
 use Rattle.lists.specs.Laws.UpTo.{all-upTo, each-every, sum-below, sum-part, sum-places, sum₂-places}
-use Rattle.model.specs.Model.{Model, object, marks, livesIn, homeIn, into, freeInto, rule, allowed, inFrames, fromObject, inWords, wordPointers, outside, stored}
+use Rattle.model.specs.Model.{Model, object, marks, livesIn, homeIn, into, freeInto, rule, allowed, inFrames, fromObject, inWords, wordPointers, outside, stored, outsideBut}
 use Rattle.model.specs.Valid.{Valid, known}
 use Rattle.model.specs.Laws.Slots.{Known, slot-known, object-valid}
 use Rattle.frames.specs.Frames.{slotAt}
@@ -129,10 +129,19 @@ module _ {L : Model} {sp : List ℕ} {ids : ℕ → List ℕ} {h : History} (S :
             rw (z, e, n .0, home-is t v onObjects (getD (wordsIn L q) w 0) (n .1)))
             (λ e. rw e (pick-same {A = ℕ} (not (eqb (getD (marksIn L q) w 0) 0)) 0))
 
-    words-are : sumOf (wordsLeadingTo h S r) (h .objects) ≡ wordPointers L r
-    unfolding inWords fromObject
-    words-are = t .objects (wordsLeadingTo h S r) ∙ ap (λ f. sumOf f (idsIn L)) (fun-ext each) ∙ ids-objects L (fromObject (livesIn L) (homeIn L) (L .kinds) r)
+    -- the words of all objects but those of some regions
+    words-but : (gone : ℕ → Bool) → sumOf (λ o. pick (gone (o .home)) 0 (wordsLeadingTo h S r o)) (h .objects) ≡ sumOf (λ o. pick (gone (o .home)) 0 (fromObject (livesIn L) (homeIn L) (L .kinds) r o)) (L .objects)
+    unfolding fromObject
+    words-but gone =
+        t .objects (λ o. pick (gone (o .home)) 0 (wordsLeadingTo h S r o))
+        ∙ ap (λ f. sumOf f (idsIn L)) (fun-ext (λ q. past (livesIn L (homeIn L q)) (gone (homeIn L q)) _ ∙ ap (pick (gone (homeIn L q)) 0) (each q)))
+        ∙ ids-objects L (λ o. pick (gone (o .home)) 0 (fromObject (livesIn L) (homeIn L) (L .kinds) r o))
       where
+        past : (a b : Bool) (n : ℕ) → pick a (pick b 0 n) 0 ≡ pick b 0 (pick a n 0)
+        past true b n = refl
+        past false true n = refl
+        past false false n = refl
+
         each : (q : ℕ) → pick (livesIn L (homeIn L q)) (wordsLeadingTo h S r (met L sp q)) 0 ≡ fromObject (livesIn L) (homeIn L) (L .kinds) r (object (L .objects) q)
         each q = by-test (livesIn L (homeIn L q)) (λ l. rw (l, words-into q l) (go (eqb (homeIn L q) r))) (λ l. rw l)
           where
@@ -140,11 +149,19 @@ module _ {L : Model} {sp : List ℕ} {ids : ℕ → List ℕ} {h : History} (S :
             go true = refl
             go false = refl
 
+    words-are : sumOf (wordsLeadingTo h S r) (h .objects) ≡ wordPointers L r
+    unfolding inWords
+    words-are = words-but (λ q. false)
+
     -- ---- outside pointers, and those that the stored count leaves out
 
     pub outside-is : history.outside h S r ≡ outside L r
     unfolding history.outside outside
     outside-is = rw (frames-length t, slots-are r, words-are) (omega arith)
+
+    pub outside-but-is : (rs : List ℕ) → history.outsideBut h S rs r ≡ outsideBut L rs r
+    unfolding history.outsideBut outsideBut
+    outside-but-is rs = rw (frames-length t, slots-are r, words-but (λ q. among q rs)) (omega arith)
 
     pub uncounted-is : stored L r + uncountedInto h S r ≡ outside L r
     unfolding uncountedInto stored outside

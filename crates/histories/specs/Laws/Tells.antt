@@ -1,19 +1,19 @@
 -- A history that tells of a model: the same kinds, frames, live regions and live objects, the regions and objects in any order. What it reads is then what the model reads.
 -- Assumes nothing.
 use mathlib.Core.Path.{_≡_, refl, sym, ap, _∙_, fun-ext}
-use mathlib.Core.Bool.{Bool, true, false, not, false≢true}
+use mathlib.Core.Bool.{Bool, true, false, not, _||_, false≢true}
 use mathlib.Core.List.{List, map}
 use Prim.Native.Nat.{ℕ, zero, suc, _+_, _-_, _≤_}
 use native.Mathlib.Omega.{arith}
 use lib.Dec.{eqb, ltb}
 use lib.ListN.{length, length-map}
 use borrow.Author.Tests.{eq-eqb, ne-eqb, not-false}
-use Rattle.lists.specs.Lists.{bit, pick, every, findOr, sumOf, countOf, from}
+use Rattle.lists.specs.Lists.{bit, pick, every, findOr, sumOf, countOf, from, among}
 use Rattle.lists.specs.Laws.Tests.{by-test, bit-zero, or-right}
 use Rattle.lists.specs.Laws.All.{all-map}
 use Rattle.lists.specs.Laws.Sums.{sum-zero, sum-nothing}
 use Rattle.lists.specs.Laws.Finds.{any-count, find-none, sum-one, true-every}
-use Rattle.model.specs.Model.{Model, Region, noRegion, called, object, livesIn, homeIn, parentIn, subregions, above}
+use Rattle.model.specs.Model.{Model, Region, noRegion, called, object, livesIn, homeIn, parentIn, subregions, closed, above}
 use Rattle.model.specs.Valid.{Valid}
 use Rattle.model.specs.Laws.Slots.{Known, in-list}
 use Rattle.model.specs.Laws.Regions.{distinct-one}
@@ -24,6 +24,7 @@ use Rattle.outcomes.specs.History.{History, isLive, parentOf, aboveOf, at, lead
 use Rattle.outcomes.specs.History as history
 use Rattle.refinement.specs.Represents.{spot, Alive, idsIn, ObjectsAgree}
 use Rattle.refinement.specs.Laws.Reads.{by-known, spot-same}
+use Rattle.refinement.specs.Laws.Together.{every-count}
 use Rattle.lists.specs.Laws.Kept.{sum-single}
 
 -- a region, and object p, as a history lists them
@@ -64,6 +65,13 @@ module _ {L : Model} {sp : List ℕ} {h : History} (t : Tells L sp h) where
   pub subregions-are : (r : ℕ) → history.subregions h r ≡ subregions L r
   unfolding history.subregions
   subregions-are r = t .regions (λ g. bit (eqb (g .parent) r))
+
+  pub closed-is : (rs : List ℕ) → history.closed h rs ≡ closed (L .regions) rs
+  unfolding history.closed closed
+  closed-is rs =
+      every-count (λ g. not (among (g .parent) rs) || among (g .name) rs) (h .regions)
+      ∙ ap (λ n. eqb n 0) (t .regions (λ g. bit (not (not (among (g .parent) rs) || among (g .name) rs))))
+      ∙ sym (every-count (λ g. not (among (g .parent) rs) || among (g .name) rs) (L .regions))
 
   -- ---- objects
 

@@ -1,22 +1,27 @@
 -- The regions marked are those whose tags are in the list.
 -- Assumes nothing.
 use mathlib.Core.Path.{_≡_, refl, sym, ap, _∙_, fun-ext}
-use mathlib.Core.Bool.{Bool, true, false, not, _||_, or-true, or-false, or-assoc}
+use mathlib.Core.Bool.{false, _||_, or-true, or-false, or-assoc}
 use mathlib.Core.Logic.{_⊎_, inl, inr, _≢_}
 use mathlib.Core.List.{List, [], _∷_, _++_, map, append-nil}
-use Prim.Native.Nat.{ℕ, _+_, _≤_, _<_}
+use Prim.Native.Nat.{ℕ, _≤_, _<_}
 use native.Mathlib.Omega.{arith}
 use lib.Dec.{eqb, ltb}
-use lib.ListN.{length, getD, set, replicate, length-set, length-replicate}
+use lib.ListN.{length, set, replicate, length-set, length-replicate}
 use lib.Seq.{getD-set-same, getD-set-other}
 use borrow.Author.Tests.{eq-eqb, ne-eqb, ltb-true, not-false}
-use Rattle.lists.specs.Lists.{pick, All, among}
+use Rattle.lists.specs.Lists.{All, among}
 use Rattle.lists.specs.Laws.Tests.{by-same}
 use Rattle.lists.specs.Laws.All.{all-map, all-at, all-change, all-replicate}
 use Rattle.model.specs.Calls.{reason, nameTests}
 use Rattle.model.specs.Laws.Passed.{all-passed, names-numbers, names-passed}
 use Rattle.regions.specs.Regions.{entryIn}
 use Rattle.members.specs.Members.{isMember, marking, tagIn, deadIn}
+
+pub marking-length : (marks ts : List ℕ) → length (marking marks ts) ≡ length marks
+unfolding marking
+marking-length marks [] = refl
+marking-length marks (t ∷ ts) = marking-length (set marks t 1) ts ∙ length-set marks t 1
 
 -- one more is marked
 member-more : (marks : List ℕ) (t u : ℕ) → t < length marks → isMember (set marks t 1) u ≡ (isMember marks u || eqb t u)
@@ -48,7 +53,7 @@ pub live-tag : (names : List ℕ) (n : ℕ) → deadIn names n ≡ false → tag
 unfolding deadIn tagIn
 live-tag names n e = omega (arith, ltb-true (entryIn names n) 64 (not-false (ltb (entryIn names n) 64) e))
 
--- so is each of a list's names where none is refused
+-- so are those of the names in a list where none is refused
 pub live-tags : (names l : List ℕ) → reason (nameTests (deadIn names) l) ≡ 0 → All (λ t. t ≤ 64) (map (tagIn names) l)
 live-tags names l e =
     let dead = deadIn names in

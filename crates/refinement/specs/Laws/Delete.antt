@@ -1,4 +1,4 @@
--- Delete: what is left once the regions of a list go represents the model without them; an accepted delete is the list of one. Its refusals are in Refusals.
+-- Delete, single and joint: what is left once the regions of a list go represents the model without them; a single delete is the list of one. Refusals are in Refusals and Together.
 -- Assumes nothing.
 use mathlib.Core.Path.{_≡_, refl, sym, ap, ap₂, _∙_, fun-ext}
 use mathlib.Core.Logic.{_⊎_, inl, inr, _≢_}
@@ -16,12 +16,12 @@ use Rattle.lists.specs.Laws.All.{all-map, all-both}
 use Rattle.lists.specs.Laws.Sums.{sum-same, sum-map, sum-keep, sum-joined, sum-split}
 use Rattle.lists.specs.Laws.Finds.{times-keep, any-false}
 use Rattle.lists.specs.Laws.UpTo.{all-from, sum-below, sum-part}
-use Rattle.model.specs.Model.{Model, Answer, delete, live, region, marks, livesIn, homeIn, parentIn, topPlace, into, freeInto, inFrames, outside, stored}
+use Rattle.model.specs.Model.{Model, Answer, delete, deleteAll, gives, live, region, marks, livesIn, homeIn, parentIn, topPlace, into, freeInto, inFrames, outside, stored}
 use Rattle.model.specs.Calls.{refusal, reply, accepted, others, removeRegions}
 use Rattle.model.specs.Valid.{Valid}
 use Rattle.model.specs.Moves.{newly, fromRegion, fromRegions}
 use Rattle.model.specs.Laws.Regions.{live-others, region-others, not-removed, lived-before}
-use Rattle.model.specs.Laws.Removable.{Removable, removable-one, parent-away}
+use Rattle.model.specs.Laws.Removable.{Removable, removable-one, removable-all, parent-away}
 use Rattle.model.specs.Laws.Counts.{outside-stored, remove-stored}
 use Rattle.frames.specs.declared.Frames.{Frames}
 use Rattle.frames.specs.Frames.{frameCount, widthAt, slotAt, raised}
@@ -201,7 +201,7 @@ module _ {L : Model} {sp : List ℕ} {ids : ℕ → List ℕ} (S : Store) (v : V
       fill n m a = omega arith
 
   -- what leaves it: the words of another region r
-  gone-one : (r : ℕ) → livesIn L r ≡ true → eqb r q ≡ false → times (tagOf (regions S) q) (outOf ((pages S) .owners) (tagOf (regions S) r) (freeWordsOf (kinds S) (S .heap) (pages S) (tagOf (regions S) r))) ≡ fromRegion L r q
+  pub gone-one : (r : ℕ) → livesIn L r ≡ true → eqb r q ≡ false → times (tagOf (regions S) q) (outOf ((pages S) .owners) (tagOf (regions S) r) (freeWordsOf (kinds S) (S .heap) (pages S) (tagOf (regions S) r))) ≡ fromRegion L r q
   unfolding freeWordsOf outOf ownerOf fromRegion
   gone-one r m n =
       let P = pages S in
@@ -285,6 +285,13 @@ deleted-represents L sp ids S v h rs m small =
           let n = other v g rs m q k in
           count-stays now (map (entryOf now) rs) _ ∙ ap (countAt now) (entry-kept v g rs m q k ∙ same-entry b q) ∙ count-left S v h q (n .0) rs m (n .1) (small q);
     })
+
+pub delete-all-step : (L : Model) (sp : List ℕ) (ids : ℕ → List ℕ) (S : Store) → Valid L → Represents L sp ids S → (a : Answer) (T : Store) (rs : List ℕ) → ((q : ℕ) → outside L q ≤ 16640)
+    → refusal L (deleteAll rs) ≡ 0 → Accepted (deleteAll rs) S a T → (a ≡ reply L (deleteAll rs)) × Represents (accepted L (deleteAll rs)) sp ids T
+unfolding Accepted reply accepted
+delete-all-step L sp ids S v h a T rs small e (x, y) =
+    let m = removable-all L rs e in
+    (x ∙ ap (λ n. gives (n ∷ [])) (sum-same _ _ rs (all-map (h .onPages .held) rs (m .live))), rw y (deleted-represents L sp ids S v h rs m small))
 
 pub delete-step : (L : Model) (sp : List ℕ) (ids : ℕ → List ℕ) (S : Store) → Valid L → Represents L sp ids S → (a : Answer) (T : Store) (r : ℕ) → ((q : ℕ) → outside L q ≤ 16640)
     → refusal L (delete r) ≡ 0 → Accepted (delete r) S a T → (a ≡ reply L (delete r)) × Represents (accepted L (delete r)) sp ids T

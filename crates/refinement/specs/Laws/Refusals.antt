@@ -1,31 +1,33 @@
 -- A store that represents a valid model refuses a call just where the model does, by the same number.
 -- Assumes nothing.
-use mathlib.Core.Path.{_≡_, refl, sym, ap, ap₂, _∙_, fun-ext}
+use mathlib.Core.Path.{_≡_, refl, sym, ap, ap₂, _∙_}
 use mathlib.Core.Bool.{Bool, true, false, not, _&&_, _||_, true≢false, false≢true}
-use mathlib.Core.List.{List}
+use mathlib.Core.List.{List, [], _∷_, _++_}
 use Prim.Native.Nat.{ℕ, zero, suc, _+_, _-_, _≤_}
 use native.Mathlib.Omega.{arith}
 use lib.Dec.{eqb, ltb, leb}
 use lib.ListN.{length, drop}
-use borrow.Author.Tests.{eqb-false, ne-eqb, leb-true, leb-false, ltb-false, le-leb, lt-leb, lt-ltb, not-false}
-use Rattle.lists.specs.Lists.{pick, anyOf, every, upTo, times}
+use borrow.Author.Tests.{eqb-false, ne-eqb, leb-true, leb-false, ltb-false, le-leb, lt-leb, not-false}
+use Rattle.lists.specs.Lists.{pick, anyOf, every, All, upTo, repeats}
 use Rattle.lists.specs.Laws.Tests.{by-test, neither, eqb-sym}
-use Rattle.lists.specs.Laws.Finds.{any-sum, any-count, every-same}
+use Rattle.lists.specs.Laws.All.{all-map}
+use Rattle.lists.specs.Laws.Finds.{every-same}
+use Rattle.lists.specs.Laws.Kept.{repeats-once}
 use Rattle.lists.specs.Laws.UpTo.{all-upTo, every-places}
 use Rattle.model.specs.Model.{Model, Call, declare, newRegion, subregion, push, dropFrame, handBack, allocate, first, copy, fetch, clear, load, setPointer, put, get, view, same, about, report, totals, audit, delete, deleteAll}
-use Rattle.model.specs.Model.{region, livesIn, homeIn, parentIn, top, beneath, slot, inSlot, slotMarks, markAt, above, allowed, inFrames, stored, outside, subregions}
-use Rattle.model.specs.Calls.{checks, refusal, lacks, noFrame, oneFrame, null, noWord, dead, size, fits}
+use Rattle.model.specs.Model.{region, livesIn, homeIn, parentIn, top, beneath, slot, inSlot, slotMarks, markAt, above, allowed, inFrames, stored, outside, subregions, closed, outsideBut}
+use Rattle.model.specs.Calls.{reason, wrongNames, nameTests, checks, refusal, lacks, noFrame, oneFrame, null, noWord, dead, size, fits}
 use Rattle.model.specs.Valid.{Valid}
 use Rattle.model.specs.Laws.Slots.{slot-lives}
 use Rattle.model.specs.Laws.Counts.{outside-stored}
 use Rattle.kinds.specs.Kinds.{sizeOf, markAt as kindMark, wrongMarks, allData as onlyData}
 use Rattle.regions.specs.Regions.{countAt, nameOf, entryOf, tagOf, newestAt, aboveIn, allowsIn}
 use Rattle.pages.specs.Pages.{takenAt, ownerOf}
-use Rattle.outcomes.specs.Store.{Store, frames, kinds, regions, pages, slot as storeSlot, slotTargets, uncountedIn, slotsBeyondIn, slotsBeyond, ledIn, ledInto, breaks, roomy, size as storeSize, breaksIn, roomyIn}
+use Rattle.outcomes.specs.Store.{Store, frames, kinds, regions, pages, slot as storeSlot, ledInto, breaks, roomy, size as storeSize, breaksIn, roomyIn}
 use Rattle.outcomes.specs.Outcome.{checks as storeChecks, refusal as storeRefusal, badLength, noFrame as storeNoFrame, oneFrame as storeOneFrame, lacks as storeLacks, lacksBeneath, dead as storeDead, full, namesOut, noWord as storeNoWord, isData, allData}
 use Rattle.refinement.specs.Represents.{Represents, RoomAgrees, spot}
 use Rattle.refinement.specs.Laws.Tags.{live-is, live-count, above-is, subregions-are}
-use Rattle.refinement.specs.Laws.Counts.{slots-beyond}
+use Rattle.refinement.specs.Laws.Together.{closed-is, look-is, either-not, pointed-is}
 use Rattle.refinement.specs.Laws.Reads.{top-width, beneath-width, kind-count, right-length, top-known, slot-is, spot-zero, kind-is, size-is, mark-is, owner-name}
 
 -- the first tests agree, and the rest do where the first fails
@@ -38,6 +40,13 @@ step false false n x y e h = h refl
 -- the last tests agree
 end : (a b : Bool) (n : ℕ) → a ≡ b → pick a n 0 ≡ pick b n 0
 end a b n e = step a b n 0 0 e (λ _. refl)
+
+-- names in turn, and then other tests, which agree where every name has passed
+names-agree : (f g : ℕ → Bool) → ((r : ℕ) → f r ≡ g r) → (rs : List ℕ) (x y : List (Bool × ℕ)) → (All (λ r. (g r ≡ false) × (eqb r 1 ≡ false)) rs → reason x ≡ reason y)
+    → reason (nameTests f rs ++ x) ≡ reason (nameTests g rs ++ y)
+unfolding nameTests
+names-agree f g e [] x y h = h tt
+names-agree f g e (r ∷ rs) x y h = step _ (g r) 2 _ _ (e r) (λ d. step _ (eqb r 1) 3 _ _ refl (λ o. names-agree f g e rs x y (λ ns. h ((d, o), ns))))
 
 module _ {L : Model} {sp : List ℕ} {ids : ℕ → List ℕ} {S : Store} (v : Valid L) (h : Represents L sp ids S) where
   -- ---- each test
@@ -130,23 +139,8 @@ module _ {L : Model} {sp : List ℕ} {ids : ℕ → List ℕ} {S : Store} (v : V
           (λ b. rw (b, ne-eqb (suc j) 0 (λ z. omega arith), e, lt-leb 65 (takenAt (pages S) j + n) (omega (arith, a .left, leb-true n ((region (L .regions) r) .room) b))))
           (λ b. rw (b, ne-eqb (suc j) 0 (λ z. omega arith), e, le-leb 65 (takenAt (pages S) j + n) (omega (arith, a .left, leb-false n ((region (L .regions) r) .room) b))))
 
-  -- the look over the uncounted frames finds what the stored count lacks
-  look-is : (r : ℕ) → livesIn L r ≡ true → ledInto S (tagOf (regions S) r) ≡ ltb 0 (inFrames (homeIn L) r (drop (L .counted) (L .frames)))
-  unfolding ledInto ledIn slotTargets slotsBeyond slotsBeyondIn
-  look-is r l =
-      let t = tagOf (regions S) r in
-      let fs = uncountedIn ((frames S) .standing) ((frames S) .counted) in
-      ap (λ f. anyOf f fs) (fun-ext (λ i. any-count (λ x. eqb x t) (slotTargets S i)))
-      ∙ any-sum (λ i. times t (slotTargets S i)) fs
-      ∙ ap (ltb 0) (slots-beyond S v (h .onFrames) (h .onRegions) (h .onObjects) r l)
-
   led-is : (r : ℕ) → livesIn L r ≡ true → (not (eqb (countAt (regions S) (entryOf (regions S) r)) 0) || ledInto S (tagOf (regions S) r)) ≡ not (eqb (outside L r) 0)
-  led-is r l = rw (look-is r l, h .counts r l, outside-stored L r) (go (stored L r) (inFrames (homeIn L) r (drop (L .counted) (L .frames))))
-    where
-      go : (a b : ℕ) → (not (eqb a 0) || ltb 0 b) ≡ not (eqb (a + b) 0)
-      go zero zero = refl
-      go zero (suc b) = rw (lt-ltb 0 (suc b) (omega arith), ne-eqb (0 + suc b) 0 (λ e. omega arith))
-      go (suc a) b = rw (ne-eqb (suc a) 0 (λ e. omega arith), ne-eqb (suc a + b) 0 (λ e. omega arith))
+  led-is r l = rw (look-is v h r l, h .counts r l, outside-stored L r) (either-not (stored L r) (inFrames (homeIn L) r (drop (L .counted) (L .frames))))
 
   -- ---- tests that calls share
 
@@ -171,36 +165,43 @@ module _ {L : Model} {sp : List ℕ} {ids : ℕ → List ℕ} {S : Store} (v : V
   unfolding storeRefusal storeChecks refusal checks
   get-agrees s w = rw right (slot-6-9 s (λ k. word-14-15 s w k (λ n o. end _ (not (eqb (markAt L s w) 0)) 16 (ap not (data-is s k w o)))))
 
-  pub refusals-agree : (c : Call) → storeRefusal S c ≡ refusal L c
-  unfolding storeRefusal storeChecks refusal checks wrongMarks
-  refusals-agree (declare ms) = rw right (ap (λ n. pick (eqb (length ms) 0 || ltb 16 (length ms) || anyOf (ltb 4) ms) 11 n) (end _ (leb 16 (length (L .kinds))) 10 (ap (leb 16) (h .onKinds .declared))))
-  refusals-agree newRegion = rw right regions-4-5
-  refusals-agree (subregion r) = rw right (step _ (dead L r) 2 _ _ (dead-is r)
-      (λ l. step _ (leb 16 ((region (L .regions) r) .level)) 20 _ _ (ap (leb 16) (h .onRegions .entry r (not-false (livesIn L r) l) .level)) (λ n. regions-4-5)))
-  refusals-agree (push n) = rw right (ap (λ m. pick (eqb n 0 || ltb 8 n) 8 m) (end _ (leb 32 (length (L .frames))) 7 (ap (leb 32) (h .onFrames .standing))))
-  refusals-agree dropFrame = rw right (end _ (noFrame L) 6 no-frame)
-  refusals-agree (handBack s b) = rw right (step _ (oneFrame L) 6 _ _ one-frame
-      (λ n. end _ (lacks (top L) s || lacks (beneath L) b) 9 (ap₂ _||_ (lacks-is (two-frames n) s) (lacks-beneath n b))))
-  refusals-agree (allocate s r k) = rw right (slot-6-9 s (λ m. step _ (dead L r) 2 _ _ (dead-is r) (λ l.
-      step _ (eqb k 0 || ltb (length (L .kinds)) k) 12 _ _ (ap (λ n. eqb k 0 || ltb n k) (kind-count (h .onKinds) (v .kinds .many))) (λ n.
-      end _ (not (fits (region (L .regions) r) (size L k)) && eqb (L .free) 0) 13
-      (ap₂ (λ a b. not a && eqb b 0) (ap (roomy S (entryOf (regions S) r)) (size-same k) ∙ roomy-is r (size L k) (not-false (livesIn L r) l) (omega arith)) (h .onPages .free))))))
-  refusals-agree (first s r) = rw right (slot-6-9 s (λ k. end _ (dead L r) 2 (dead-is r)))
-  refusals-agree (copy s t) = rw right (slots-6-9 s t (λ k m. refl))
-  refusals-agree (fetch b s) = rw right (step _ (oneFrame L) 6 _ _ one-frame
-      (λ n. end _ (lacks (beneath L) b || lacks (top L) s) 9 (ap₂ _||_ (lacks-beneath n b) (lacks-is (two-frames n) s))))
-  refusals-agree (clear s) = rw right (slot-6-9 s (λ k. refl))
-  refusals-agree (load s w t) = rw right (slots-6-9 s t (λ k m. word-14-15 s w k (λ n o. end _ (eqb (markAt L s w) 0) 16 (data-is s k w o))))
-  refusals-agree (setPointer s w t) = rw right (slots-6-9 s t (λ k m. word-14-15 s w k (λ n o. step _ (eqb (markAt L s w) 0) 16 _ _ (data-is s k w o) (λ d.
-      end _ (not (allowed (parentIn L) (homeIn L) ((inSlot L s) .home) (markAt L s w) (slot L t))) 17 (breaks-is s w t k m n o)))))
-  refusals-agree (put s w x) = get-agrees s w
-  refusals-agree (get s w) = get-agrees s w
-  refusals-agree (view s) = rw right (slot-6-9 s (λ k. step _ (null L s) 14 _ _ (null-is s k) (λ n. end _ (not (every (eqb 0) (slotMarks L s))) 16 (ap not (all-data s k)))))
-  refusals-agree (same s t) = rw right (slots-6-9 s t (λ k m. refl))
-  refusals-agree (about s) = rw right (slot-6-9 s (λ k. refl))
-  refusals-agree (report r) = rw right (end _ (dead L r) 2 (dead-is r))
-  refusals-agree totals = refl
-  refusals-agree audit = refl
-  refusals-agree (delete r) = rw right (step _ (dead L r) 2 _ _ (dead-is r) (λ l. ap (λ n. pick (eqb r 1) 3 n)
-      (step _ (not (eqb (subregions L r) 0)) 18 _ _ (ap (λ n. not (eqb n 0)) (subregions-are (h .onRegions) v r (not-false (livesIn L r) l))) (λ n.
-      end _ (not (eqb (outside L r) 0)) 19 (led-is r (not-false (livesIn L r) l))))))
+  -- small counts: a joint delete tests a count that some words have left
+  module _ (small : (q : ℕ) → outside L q ≤ 16640) where
+    pub refusals-agree : (c : Call) → storeRefusal S c ≡ refusal L c
+    unfolding storeRefusal storeChecks refusal checks wrongMarks wrongNames
+    refusals-agree (declare ms) = rw right (ap (λ n. pick (eqb (length ms) 0 || ltb 16 (length ms) || anyOf (ltb 4) ms) 11 n) (end _ (leb 16 (length (L .kinds))) 10 (ap (leb 16) (h .onKinds .declared))))
+    refusals-agree newRegion = rw right regions-4-5
+    refusals-agree (subregion r) = rw right (step _ (dead L r) 2 _ _ (dead-is r)
+        (λ l. step _ (leb 16 ((region (L .regions) r) .level)) 20 _ _ (ap (leb 16) (h .onRegions .entry r (not-false (livesIn L r) l) .level)) (λ n. regions-4-5)))
+    refusals-agree (push n) = rw right (ap (λ m. pick (eqb n 0 || ltb 8 n) 8 m) (end _ (leb 32 (length (L .frames))) 7 (ap (leb 32) (h .onFrames .standing))))
+    refusals-agree dropFrame = rw right (end _ (noFrame L) 6 no-frame)
+    refusals-agree (handBack s b) = rw right (step _ (oneFrame L) 6 _ _ one-frame
+        (λ n. end _ (lacks (top L) s || lacks (beneath L) b) 9 (ap₂ _||_ (lacks-is (two-frames n) s) (lacks-beneath n b))))
+    refusals-agree (allocate s r k) = rw right (slot-6-9 s (λ m. step _ (dead L r) 2 _ _ (dead-is r) (λ l.
+        step _ (eqb k 0 || ltb (length (L .kinds)) k) 12 _ _ (ap (λ n. eqb k 0 || ltb n k) (kind-count (h .onKinds) (v .kinds .many))) (λ n.
+        end _ (not (fits (region (L .regions) r) (size L k)) && eqb (L .free) 0) 13
+        (ap₂ (λ a b. not a && eqb b 0) (ap (roomy S (entryOf (regions S) r)) (size-same k) ∙ roomy-is r (size L k) (not-false (livesIn L r) l) (omega arith)) (h .onPages .free))))))
+    refusals-agree (first s r) = rw right (slot-6-9 s (λ k. end _ (dead L r) 2 (dead-is r)))
+    refusals-agree (copy s t) = rw right (slots-6-9 s t (λ k m. refl))
+    refusals-agree (fetch b s) = rw right (step _ (oneFrame L) 6 _ _ one-frame
+        (λ n. end _ (lacks (beneath L) b || lacks (top L) s) 9 (ap₂ _||_ (lacks-beneath n b) (lacks-is (two-frames n) s))))
+    refusals-agree (clear s) = rw right (slot-6-9 s (λ k. refl))
+    refusals-agree (load s w t) = rw right (slots-6-9 s t (λ k m. word-14-15 s w k (λ n o. end _ (eqb (markAt L s w) 0) 16 (data-is s k w o))))
+    refusals-agree (setPointer s w t) = rw right (slots-6-9 s t (λ k m. word-14-15 s w k (λ n o. step _ (eqb (markAt L s w) 0) 16 _ _ (data-is s k w o) (λ d.
+        end _ (not (allowed (parentIn L) (homeIn L) ((inSlot L s) .home) (markAt L s w) (slot L t))) 17 (breaks-is s w t k m n o)))))
+    refusals-agree (put s w x) = get-agrees s w
+    refusals-agree (get s w) = get-agrees s w
+    refusals-agree (view s) = rw right (slot-6-9 s (λ k. step _ (null L s) 14 _ _ (null-is s k) (λ n. end _ (not (every (eqb 0) (slotMarks L s))) 16 (ap not (all-data s k)))))
+    refusals-agree (same s t) = rw right (slots-6-9 s t (λ k m. refl))
+    refusals-agree (about s) = rw right (slot-6-9 s (λ k. refl))
+    refusals-agree (report r) = rw right (end _ (dead L r) 2 (dead-is r))
+    refusals-agree totals = refl
+    refusals-agree audit = refl
+    refusals-agree (delete r) = rw right (step _ (dead L r) 2 _ _ (dead-is r) (λ l. ap (λ n. pick (eqb r 1) 3 n)
+        (step _ (not (eqb (subregions L r) 0)) 18 _ _ (ap (λ n. not (eqb n 0)) (subregions-are (h .onRegions) v r (not-false (livesIn L r) l))) (λ n.
+        end _ (not (eqb (outside L r) 0)) 19 (led-is r (not-false (livesIn L r) l))))))
+    refusals-agree (deleteAll rs) = rw right (step _ (wrongNames rs) 22 _ _ refl (λ w. names-agree (storeDead S) (dead L) dead-is rs _ _ (λ ns.
+        let ls = all-map (λ r n. not-false (livesIn L r) (n .0)) rs ns in
+        let once = repeats-once rs (neither (eqb (length rs) 0 || ltb 16 (length rs)) (repeats rs) w .1) in
+        step _ (not (closed (L .regions) rs)) 18 _ _ (ap not (closed-is v (h .onRegions) rs ls)) (λ c.
+        end _ (anyOf (λ r. not (eqb (outsideBut L rs r) 0)) rs) 19 (pointed-is v h small rs ls once)))))

@@ -1,0 +1,254 @@
+-- A list of one name for delete_all has the outcomes of delete, on every memory but where the region is entered as its own region above and has no other subregion; so after every run.
+-- Assumes nothing.
+use mathlib.Core.Path.{_≡_, refl, sym, ap, _∙_, subst⁻¹, fun-ext}
+use mathlib.Core.Logic.{_↔_, _≢_, inl, inr}
+use mathlib.Core.Bool.{Bool, true, false, not, _&&_, _||_, or-false}
+use mathlib.Core.List.{List, [], _∷_, map, append-nil}
+use Prim.Native.Nat.{ℕ, zero, suc, _+_, _≤_, _<_}
+use native.Mathlib.Nat.{add-zero}
+use native.Mathlib.Numerals.{add-one}
+use native.Mathlib.Omega.{arith}
+use lib.Dec.{eqb, eqb·suc-suc}
+use lib.ListN.{getD}
+use borrow.Author.Tests.{eqb-true, eqb-false, eq-eqb, ne-eqb, ltb-true, not-false}
+use Rattle.lists.specs.Lists.{bit, pick, anyOf, every, findOr, sumOf, countOf, upTo, times, among}
+use Rattle.lists.specs.Laws.Tests.{by-test, both}
+use Rattle.lists.specs.Laws.Finds.{find-none, find-passes, times-keep}
+use Rattle.lists.specs.Laws.UpTo.{sum-change}
+use Rattle.lists.specs.Laws.Kept.{among-alone, sum-one}
+use Rattle.model.specs.Model.{Model, delete, deleteAll, gives, refusedBy}
+use Rattle.model.specs.Calls.{wrongNames, nameTests}
+use Rattle.model.specs.Laws.Paged.{stored-bound}
+use Rattle.regions.specs.declared.Regions.{Regions}
+use Rattle.regions.specs.Regions.{nameAt, entryIn, entryOf, tagOf, isLive, parentAt, levelAt, subregionsIn, subregionsOf, closedIn, countAt}
+use Rattle.regions.specs.Laws.Recount.{recount-exact}
+use Rattle.pages.specs.Pages.{ownerIn, pagesOf}
+use Rattle.objects.specs.Objects.{freeWordsOf, outOf}
+use Rattle.outcomes.specs.Store.{Store, frames, kinds, regions, pages, targetsIn, uncountedIn, ledIn, ledInto, ledAmongIn, ledAmong}
+use Rattle.outcomes.specs.Shape.{Shaped}
+use Rattle.outcomes.specs.Outcome.{Outcome, Accepted, Answered, badLength, dead, outgoing, countBut, checks, refusal}
+use Rattle.outcomes.specs.Laws.Steps.{by-refusal}
+use Rattle.outcomes.specs.Laws.Bounded.{below-at}
+use Rattle.outcomes.specs.Laws.Tree.{Place, entry-above}
+use Rattle.promises.specs.Promises.{Refusals}
+use Rattle.promises.specs.Laws.Refused.{refusals}
+use Rattle.refinement.specs.Laws.Tags.{live-is}
+use Rattle.audited.specs.Laws.Audited.{audited}
+use Rattle.audited.specs.Laws.Good.{Good}
+use Rattle.demands.specs.Later.{SameAsDelete, OnlyItself, JointOfOne}
+use Rattle.demands.specs.Laws.Steps.{run-told}
+use Rattle.demands.specs.Laws.Demand3.{start-told}
+
+-- ---- 18, by the arrays
+
+-- the first number below n that passes, or n, passes if it is below n
+found-passes : (f : ℕ → Bool) (n : ℕ) → findOr f n (upTo n) < n → f (findOr f n (upTo n)) ≡ true
+found-passes f n h = by-test (anyOf f (upTo n)) (find-passes f n (upTo n)) (λ t. absurd (omega (arith, find-none f n (upTo n) t)))
+
+every-zero : (f : ℕ → ℕ) (l : List ℕ) → every (λ x. eqb (f x) 0) l ≡ eqb (sumOf f l) 0
+every-zero f [] = refl
+every-zero f (x ∷ xs) = rw (every-zero f xs) (go (f x) (sumOf f xs))
+  where
+    go : (a b : ℕ) → (eqb a 0 && eqb b 0) ≡ eqb (a + b) 0
+    go zero b = let e : b ≡ 0 + b = omega arith in ap (λ n. eqb n 0) e
+    go (suc a) b = rw (ne-eqb (suc a) 0 (λ e. omega arith), ne-eqb (suc a + b) 0 (λ e. omega arith))
+
+-- no number but k passes below n where as many pass as k alone
+every-but : (f : ℕ → Bool) (n k : ℕ) → k < n → every (λ i. eqb (pick (eqb i k) 0 (bit (f i))) 0) (upTo n) ≡ eqb (countOf f (upTo n)) (bit (f k))
+every-but f n k h =
+    let rest : ℕ → ℕ = λ i. pick (eqb i k) 0 (bit (f i)) in
+    let z : rest k ≡ 0 = rw (eq-eqb k k refl) in
+    every-zero rest (upTo n) ∙ go (countOf f (upTo n)) (sumOf rest (upTo n)) (bit (f k)) (omega (arith, z, sum-change (λ i. bit (f i)) rest n k h (λ i l d. rw (ne-eqb i k d))))
+  where
+    go : (a b c : ℕ) → a ≡ b + c → eqb b 0 ≡ eqb a c
+    go a b c e = by-test (eqb b 0)
+        (λ t. rw (t, eq-eqb a c (omega (arith, eqb-true b 0 t))))
+        (λ t. rw (t, ne-eqb a c (λ q. eqb-false b 0 t (omega arith))))
+
+-- the entry found of a name is in use
+entry-used : (names : List ℕ) (r : ℕ) → entryIn names r < 64 → getD names (entryIn names r) 0 ≢ 0
+unfolding entryIn
+entry-used names r = go (eqb r 0) refl
+  where
+    found : ℕ
+    found = findOr (λ i. eqb (getD names i 0) r) 64 (upTo 64)
+
+    go : (b : Bool) → eqb r 0 ≡ b → pick b 64 found < 64 → getD names (pick b 64 found) 0 ≢ 0
+    go true z h e = omega arith
+    go false z h e = eqb-false r 0 z (sym (eqb-true (getD names found 0) r (found-passes (λ i. eqb (getD names i 0) r) 64 h)) ∙ e)
+
+module _ (names parents : List ℕ) where
+  -- a list of one finds no subregion where there is none, or only the region itself
+  closed-one : (i : ℕ) → i < 64 → getD names i 0 ≢ 0
+      → let n = subregionsIn names parents (suc i) in closedIn names parents (λ t. among t (suc i ∷ [])) ≡ (eqb n 0 || (eqb (getD parents i 0) (suc i) && eqb n 1))
+  unfolding closedIn subregionsIn
+  closed-one i h u =
+      ap (λ f. every f (upTo 64)) (fun-ext alike)
+      ∙ every-but below 64 i h
+      ∙ count (eqb (getD parents i 0) (suc i)) (countOf below (upTo 64)) own
+    where
+      below : ℕ → Bool
+      below k = not (eqb (getD names k 0) 0) && eqb (getD parents k 0) (suc i)
+
+      tests : (a b c : Bool) → (a || not b || c) ≡ eqb (pick c 0 (bit (not a && b))) 0
+      tests true b true = refl
+      tests true b false = refl
+      tests false true true = refl
+      tests false true false = refl
+      tests false false true = refl
+      tests false false false = refl
+
+      alike : (k : ℕ) → (eqb (getD names k 0) 0 || not (among (getD parents k 0) (suc i ∷ [])) || among (suc k) (suc i ∷ [])) ≡ eqb (pick (eqb k i) 0 (bit (below k))) 0
+      alike k = rw (among-alone (getD parents k 0) (suc i), among-alone (suc k) (suc i), eqb·suc-suc k i) (tests (eqb (getD names k 0) 0) (eqb (getD parents k 0) (suc i)) (eqb k i))
+
+      own : bit (below i) ≤ countOf below (upTo 64)
+      own = sum-one (λ k. bit (below k)) 64 i h
+
+      count : (b : Bool) (n : ℕ) → bit (not (eqb (getD names i 0) 0) && b) ≤ n → eqb n (bit (not (eqb (getD names i 0) 0) && b)) ≡ (eqb n 0 || (b && eqb n 1))
+      count true n l = rw (ne-eqb (getD names i 0) 0 u, ne-eqb n 0 (λ z. omega (arith, rw (ne-eqb (getD names i 0) 0 u) at l)))
+      count false n l = rw (ne-eqb (getD names i 0) 0 u) (sym (or-false (eqb n 0)))
+
+-- ---- 19
+
+-- the own words of a region are never counted for it
+none-own : (owners : List ℕ) (t : ℕ) (vs : List ℕ) → times t (outOf owners t vs) ≡ 0
+unfolding outOf
+none-own owners t vs = times-keep t (λ x. not (eqb x t)) (map (ownerIn owners) vs) ∙ rw (eq-eqb t t refl)
+
+module _ (S : Store) where
+  none-out : (t : ℕ) → times t (outgoing S (t ∷ [])) ≡ 0
+  unfolding outgoing
+  none-out t =
+      let vs = freeWordsOf (kinds S) (S .heap) (pages S) t in
+      rw (append-nil (outOf ((pages S) .owners) t vs)) (none-own ((pages S) .owners) t vs)
+
+  -- so its count stays
+  count-one : (i : ℕ) → i < 64 → countAt (regions S) i < 4294967296 → countBut S (suc i ∷ []) i ≡ countAt (regions S) i
+  unfolding countBut
+  count-one i l h = recount-exact (regions S) [] (outgoing S (suc i ∷ [])) i (countAt (regions S) i) l (omega (arith, none-out (suc i))) h
+
+  look-one : (t : ℕ) → ledAmong S (t ∷ []) ≡ ledInto S t
+  unfolding ledAmong ledAmongIn ledInto ledIn
+  look-one t = ap (λ m. anyOf (λ i. anyOf m (targetsIn ((frames S) .widths) ((frames S) .slots) ((pages S) .owners) i)) (uncountedIn ((frames S) .standing) ((frames S) .counted))) (fun-ext (λ x. among-alone x t))
+
+-- ---- the refusals of the two calls
+
+module _ (S : Store) (r : ℕ) where
+  abbrev g : Regions
+  g = regions S
+
+  abbrev entry : ℕ
+  entry = entryOf g r
+
+  abbrev tag : ℕ
+  tag = tagOf g r
+
+  module _ (live : dead S r ≡ false) where
+    in-entries : entry < 64
+    unfolding dead isLive
+    in-entries = ltb-true entry 64 (not-false (isLive g r) live)
+
+    used : nameAt g entry ≢ 0
+    unfolding nameAt entryOf
+    used = entry-used (g .names) r in-entries
+
+  -- the region's one subregion is itself
+  abbrev own : Bool
+  own = eqb (parentAt g entry) tag && eqb (subregionsOf g tag) 1
+
+  members : dead S r ≡ false → closedIn (g .names) (g .parents) (λ t. among t (tag ∷ [])) ≡ (eqb (subregionsOf g tag) 0 || own)
+  unfolding tagOf subregionsOf parentAt nameAt
+  members d = rw (add-one entry) (closed-one (g .names) (g .parents) entry (in-entries d) (used d))
+
+  -- the stored count of a live region is one of 32 bits
+  abbrev Small : Type 0
+  Small = dead S r ≡ false → countAt g entry < 4294967296
+
+  counted : Small → dead S r ≡ false → countBut S (tag ∷ []) entry ≡ countAt g entry
+  unfolding tagOf
+  counted small d = rw (add-one entry) (count-one S entry (in-entries d) (small d))
+
+  -- the test of delete for 19; and all its tests, with b in place of the one for 18
+  abbrev last : Bool
+  last = not (eqb (countAt g entry) 0) || ledInto S tag
+
+  tested : Bool → ℕ
+  tested b = pick (badLength S) 21 (pick (dead S r) 2 (pick (eqb r 1) 3 (pick b 18 (pick last 19 0))))
+
+  delete-tested : refusal S (delete r) ≡ tested (not (eqb (subregionsOf g tag) 0))
+  unfolding refusal checks tested
+  delete-tested = refl
+
+  joint-tested : Small → refusal S (deleteAll (r ∷ [])) ≡ tested (not (eqb (subregionsOf g tag) 0 || own))
+  unfolding refusal checks wrongNames nameTests tested
+  joint-tested small = by-test (dead S r) (λ d. rw d) (λ d. rw (d, members d, counted small d, or-false (not (eqb (countAt g entry) 0)), look-one S tag))
+
+  refused-alike : Small → (OnlyItself S r → ⊥) → refusal S (deleteAll (r ∷ [])) ≡ refusal S (delete r)
+  unfolding tested
+  refused-alike small n = joint-tested small ∙ alike ∙ sym delete-tested
+    where
+      not-own : badLength S ≡ false → dead S r ≡ false → eqb r 1 ≡ false → own ≡ false
+      not-own b d o = by-test own
+          (λ w.
+          let q = both (eqb (parentAt g entry) tag) (eqb (subregionsOf g tag) 1) w in
+          absurd (n (b, d, eqb-false r 1 o, eqb-true (parentAt g entry) tag (q .0), eqb-true (subregionsOf g tag) 1 (q .1))))
+          (λ w. w)
+
+      alike : tested (not (eqb (subregionsOf g tag) 0 || own)) ≡ tested (not (eqb (subregionsOf g tag) 0))
+      alike = by-test (badLength S) (λ b. rw b) (λ b. by-test (dead S r) (λ d. rw (b, d)) (λ d. by-test (eqb r 1) (λ o. rw (b, d, o)) (λ o. rw (not-own b d o, or-false (eqb (subregionsOf g tag) 0)))))
+
+  -- ---- and so the outcomes
+
+  same-outcomes : refusal S (deleteAll (r ∷ [])) ≡ refusal S (delete r) → SameAsDelete S r
+  unfolding Outcome Accepted
+  same-outcomes e a T = subst⁻¹ (λ n. Answered n (deleteAll (r ∷ [])) S a T ↔ Answered (refusal S (delete r)) (delete r) S a T) e (go (refusal S (delete r)))
+    where
+      freed : gives (sumOf (λ r. pagesOf (pages S) (tagOf g r)) (r ∷ []) ∷ []) ≡ gives (pagesOf (pages S) tag ∷ [])
+      freed = ap (λ n. gives (n ∷ [])) (add-zero (pagesOf (pages S) tag))
+
+      go : (n : ℕ) → Answered n (deleteAll (r ∷ [])) S a T ↔ Answered n (delete r) S a T
+      go zero = ((λ o. (o .0 ∙ freed, o .1)), (λ o. (o .0 ∙ sym freed, o .1)))
+      go (suc n) = ((λ o. o), (λ o. o))
+
+  -- delete refuses by 18 where the region's one subregion is itself, and a list of one does not
+  apart : Small → SameAsDelete S r → OnlyItself S r → ⊥
+  unfolding Refusals tested
+  apart small s o =
+      let d : refusal S (delete r) ≡ 18 = delete-tested ∙ rw (o .0, o .1, ne-eqb r 1 (o .2), o .4) in
+      let j : refusal S (deleteAll (r ∷ [])) ≡ pick last 19 0 =
+      joint-tested small ∙ rw (o .0, o .1, ne-eqb r 1 (o .2), o .3, eq-eqb tag tag refl, o .4) in
+      not-18 last (refusals (deleteAll (r ∷ [])) S (refusedBy 18) S (s (refusedBy 18) S .1 (by-refusal (delete r) S (refusedBy 18) S 18 d (λ z. omega arith) refl refl)) .0 ∙ j)
+    where
+      not-18 : (b : Bool) → _≡_ {A = ℕ} 18 (pick b 19 0) → ⊥
+      not-18 true e = omega arith
+      not-18 false e = omega arith
+
+on-every-memory : (S : Store) → Shaped S → (r : ℕ) → SameAsDelete S r ↔ (OnlyItself S r → ⊥)
+unfolding countAt
+on-every-memory S h r = (apart S r small, λ n. same-outcomes S r (refused-alike S r small n))
+  where
+    small : Small S r
+    small d = below-at 4294967296 ((regions S) .counts) (entryOf (regions S) r) (omega arith) (h .bounded .inRegions .counts)
+
+-- ---- a store that stands for a valid model
+
+module _ {N : ℕ} {L : Model} {S : Store} (k : Good N L S) (r : ℕ) where
+  small-told : Small S r
+  unfolding dead
+  small-told d = omega (arith, k .represents .counts r (sym (live-is (k .represents .onRegions) r) ∙ not-false (isLive (regions S) r) d), stored-bound L (k .valid) (k .paged) (k .few) r)
+
+  -- no region is its own region above: its level would be one more than itself
+  not-above : OnlyItself S r → ⊥
+  unfolding tagOf
+  not-above o = go (entry-above S (k .sized .inRegions .names) (audited S (k .valid) (k .represents) (k .sized) .parents) (entry S r) (used S r (o .1)))
+    where
+      go : Place S (entry S r) → ⊥
+      go (inl q) = omega (arith, q .0, o .3)
+      go (inr (p, b)) = let q : p ≡ entry S r = omega (arith, b .parent, o .3) in omega (arith, b .level, ap (levelAt (regions S)) q)
+
+  same-told : SameAsDelete S r
+  same-told = same-outcomes S r (refused-alike S r small-told not-above)
+
+pub joint-of-one : JointOfOne
+unfolding JointOfOne
+joint-of-one = (on-every-memory, λ S h s es T u r. same-told (run-told (start-told S h s .2) u .1 .good) r)
