@@ -1,6 +1,6 @@
 // Several regions at once, marked by tag: what keeps them from being deleted together, and what goes with them.
 ghost use mathlib.Core.Path.{_≡_};
-ghost use Rattle.lists.specs.Lists.{countOf, upTo};
+ghost use Prim.Native.Nat.{_<_};
 ghost use Rattle.kinds.specs.Kinds.{kindsWith};
 ghost use Rattle.regions.specs.Regions.{closedIn};
 ghost use Rattle.regions.specs.Laws.Steps.{leavings};
@@ -9,17 +9,18 @@ ghost use Rattle.outcomes.specs.Store.{ledAmongIn};
 ghost use Rattle.members.specs.Members.{isMember};
 ghost use Rattle.joint_parts.specs.Joint.{stray, stillCounted, outFrom, freedTo, heldBy, namesLeft};
 
-// Whether entry i has a live region that is no member, right below one that is.
-fn stray<'a>(names: &'a [u32], parents: &'a [u8], members: &'a [u8], i: u32) -> bool
-    ensures { λ r. ⌜ r ≡ stray (now (names .entry)) (now (parents .entry)) (isMember (now (members .entry))) i ⌝ }
+// Whether entry e has a live region that is no member, right below one that is.
+fn stray<'a>(names: &'a [u32], parents: &'a [u8], members: &'a [u8], e: u32) -> bool
+    requires { ⌜ e < 64 ⌝ }
+    ensures { λ r. ⌜ r ≡ stray (now (names .entry)) (now (parents .entry)) (isMember (now (members .entry))) e ⌝ }
 {
-    if regions::name_at(names, i) == 0 {
+    if regions::name_at(names, e) == 0 {
         return false;
     }
-    if members::is_member(members, i + 1) {
+    if members::is_member(members, e + 1) {
         return false;
     }
-    members::is_member(members, regions::parent_at(parents, i))
+    members::is_member(members, regions::parent_at(parents, e))
 }
 
 // Whether every live region right below a member is a member.
