@@ -3,3 +3,4 @@ pub mod Tags
 pub mod Gone
 pub mod Counted
 pub mod Tests
+pub mod Cases

@@ -1,4 +1,4 @@
-use mathlib.Core.Path.{_≡_, sym, ap, _∙_}
+use mathlib.Core.Path.{_≡_, sym}
 use mathlib.Core.Bool.{Bool, false, not, _&&_, and-false}
 use mathlib.Core.Logic.{⊎-elim}
 use mathlib.Core.List.{List}

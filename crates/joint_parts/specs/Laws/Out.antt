@@ -1,10 +1,10 @@
 -- The words of the members' pages leave the counts, one page after the other.
 -- Assumes nothing.
-use mathlib.Core.Path.{_≡_, sym, ap, _∙_}
+use mathlib.Core.Path.{_≡_, sym, _∙_}
 use mathlib.Core.Bool.{Bool, true, false}
 use mathlib.Core.List.{List, [], _++_, append-nil}
 use Prim.Native.Nat.{ℕ, _+_}
-use Rattle.lists.specs.Lists.{pick, joined, upTo}
+use Rattle.lists.specs.Lists.{pick}
 use Rattle.lists.specs.Laws.UpTo.{joined-next}
 use Rattle.kinds.specs.declared.Kinds.{Kinds}
 use Rattle.regions.specs.Laws.Steps.{leavings, steps-append}
