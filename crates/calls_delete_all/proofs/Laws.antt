@@ -79,6 +79,7 @@ module _ (S : Store) (rs : List ℕ) where
           → Outcome (deleteAll rs) S a T
       unfolding Accepted deleted recounted newlyCounted freed pageCount withoutRegions withCounts
       delete-all-effect a T k ds os ns e p l ed ek eo en ef et er ep eh =
-          by-effect (deleteAll rs) S a T (second ∙ ap (λ b. pick b 19 0) e)
-          (p ∙ rw (ek, members, held-are (pages S) (tags S rs) once, sum-map (pagesOf (pages S)) (tagOf (regions S)) rs),
-          by-parts T (deleted S rs) ef et (er ∙ rw (ed, en, scanned, members, names-are (regions S) rs live) (ap (λ h. withoutRegions h (map (entryOf (regions S)) rs)) (entered-are S (tags S rs) once fits (newlyCounted S)))) (ep ∙ rw (eo, members, freed-are ((pages S) .owners) (tags S rs) _ l)) eh)
+          by-effect (deleteAll rs) S a T (second ∙ ap (λ b. pick b 19 0) e) (
+            p ∙ rw (ek, members, held-are (pages S) (tags S rs) once, sum-map (pagesOf (pages S)) (tagOf (regions S)) rs),
+            by-parts T (deleted S rs) ef et (er ∙ rw (ed, en, scanned, members, names-are (regions S) rs live) (ap (λ h. withoutRegions h (map (entryOf (regions S)) rs)) (entered-are S (tags S rs) once fits (newlyCounted S)))) (ep ∙ rw (eo, members, freed-are ((pages S) .owners) (tags S rs) _ l)) eh,
+          )

@@ -2,6 +2,7 @@
 use state::Done;
 use state::State;
 ghost use mathlib.Core.Path.{_≡_};
+ghost use mathlib.Core.Bool.{_||_};
 ghost use mathlib.Core.List.{[], map};
 ghost use Rattle.model.specs.Model.{deleteAll};
 ghost use Rattle.model.specs.Calls.{reason};

@@ -27,7 +27,7 @@ use Rattle.joint_parts.specs.Joint.{stillCounted, outFrom}
 use Rattle.calls_delete_all.specs.Laws.Tags.{tag-entry, entries-below}
 
 module _ (k : Kinds) (heap : List ℕ) (p : Pages) (u : ℕ) where
-  -- how many words marked 1 on page j lead into the region with tag u, where they are the region t's
+  -- how many words marked 1 on page j lead into the region with tag u, where the page is the region t's
   abbrev leading : ℕ → ℕ → ℕ
   leading t j = times u (outOf (p .owners) t (freeWordsOn k heap p j))
 
@@ -60,7 +60,7 @@ module _ (k : Kinds) (heap : List ℕ) (p : Pages) (u : ℕ) where
       go true l = refl
       go false l = refl
 
--- lists with the same tags as often move the counts alike
+-- lists that have each tag equally often move the counts alike
 recount-same : (g : Regions) (come a b : List ℕ) → ((u : ℕ) → times u a ≡ times u b) → recount g come a ≡ recount g come b
 unfolding recount
 recount-same g come a b h = ap (withCounts g) (moved-same (g .counts) come a come b (λ i l. refl) (λ i l. h (suc i)))

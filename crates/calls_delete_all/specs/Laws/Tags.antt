@@ -1,4 +1,4 @@
--- The tags of regions that live, by their names, on any memory: two names have two tags, and none is 0. An entry is a region's where its tag is.
+-- Regions known by their names, on any memory: their tags go with their entries, and where they live two names have two tags, each at most 64.
 -- Assumes nothing.
 use mathlib.Core.Path.{_≡_, ap, _∙_, sym, fun-ext}
 use mathlib.Core.Bool.{false}

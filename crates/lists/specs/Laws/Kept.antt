@@ -130,6 +130,20 @@ once-repeats (x ∷ xs) h =
     less : (b : Bool) (n : ℕ) → bit b + n ≤ 1 → n ≤ 1
     less b n k = omega arith
 
+-- f of each number of such a list, where `back` tells the number from it
+pub map-once : (f back : ℕ → ℕ) (l : List ℕ) → All (λ n. back (f n) ≡ n) l → ((n : ℕ) → times n l ≤ 1) → (t : ℕ) → times t (map f l) ≤ 1
+map-once f back l told once t = by-test (among t (map f l))
+    (all-among (λ t. times t (map f l) ≤ 1) (map f l) (all-change (λ n. back (f n) ≡ n) (λ t. times t (map f l) ≤ 1) f own l told) t)
+    (λ e. omega (arith, ltb-false 0 (times t (map f l)) (sym (any-count (λ x. eqb x t) (map f l)) ∙ e)))
+  where
+    apart : (m n : ℕ) → back (f m) ≡ m → back (f n) ≡ n → eqb (f m) (f n) ≡ eqb m n
+    apart m n p q = by-test (eqb m n)
+        (λ e. rw (eqb-true m n e, eq-eqb (f n) (f n) refl, eq-eqb n n refl))
+        (λ e. rw e (ne-eqb (f m) (f n) (λ d. eqb-false m n e (sym p ∙ ap back d ∙ q))))
+
+    own : (n : ℕ) → back (f n) ≡ n → times (f n) (map f l) ≤ 1
+    own n p = rw (sum-map (λ t. bit (eqb t (f n))) f l ∙ sum-same _ (λ m. bit (eqb m n)) l (all-map (λ m q. ap bit (apart m n q p)) l told)) (once n)
+
 module _ {A : Type 0} where
   -- what holds of all elements, for each number that passes, is what each element has for all of them
   pub all-each-of : (C : ℕ → Type 0) (P : ℕ → A → Type 0) (l : List A) → ((q : ℕ) → C q → All (P q) l) → All (λ x. (q : ℕ) → C q → P q x) l
@@ -161,28 +175,12 @@ module _ {A : Type 0} where
       go true q h ih = (λ e. h .0, ih (h .1))
       go false q h ih = (λ e. absurd (false≢true (sym q ∙ e)), ih h)
 
--- f of each number of a list, from which `back` tells it: each stands as often as before
-module _ (f back : ℕ → ℕ) (l : List ℕ) (told : All (λ n. back (f n) ≡ n) l) where
-  told-apart : (m n : ℕ) → back (f m) ≡ m → back (f n) ≡ n → eqb (f m) (f n) ≡ eqb m n
-  told-apart m n p q = by-test (eqb m n)
-      (λ e. rw (eqb-true m n e, eq-eqb (f n) (f n) refl, eq-eqb n n refl))
-      (λ e. rw e (ne-eqb (f m) (f n) (λ d. eqb-false m n e (sym p ∙ ap back d ∙ q))))
-
-  pub map-once : ((n : ℕ) → times n l ≤ 1) → (t : ℕ) → times t (map f l) ≤ 1
-  map-once once t = by-test (among t (map f l))
-      (all-among (λ t. times t (map f l) ≤ 1) (map f l) (all-change (λ n. back (f n) ≡ n) (λ t. times t (map f l) ≤ 1) f own l told) t)
-      (λ e. omega (arith, ltb-false 0 (times t (map f l)) (sym (any-count (λ x. eqb x t) (map f l)) ∙ e)))
-    where
-      own : (n : ℕ) → back (f n) ≡ n → times (f n) (map f l) ≤ 1
-      own n p = rw (sum-map (λ t. bit (eqb t (f n))) f l ∙ sum-same _ (λ m. bit (eqb m n)) l (all-map (λ m q. ap bit (told-apart m n q p)) l told)) (once n)
-
--- some number below n that stands in a list passes where some number of the list does
+-- a number below n that stands in a list passes where one of the list does
 pub any-members : (f : ℕ → Bool) (n : ℕ) (l : List ℕ) → All (λ i. i < n) l → anyOf (λ i. among i l && f i) (upTo n) ≡ anyOf f l
 any-members f n l h = by-test (anyOf f l)
     (λ e.
     let t = any-index f l 0 e in
-    let i = getD l (t .0) 0 in
-    rw e (any-one (λ i. among i l && f i) n i (all-in (λ i. i < n) l (t .0) 0 h (t .1)) (rw (all-in (λ i. among i l ≡ true) l (t .0) 0 (among-self l) (t .1)) (t .2))))
+    rw e (any-one (λ i. among i l && f i) n (getD l (t .0) 0) (all-in (λ i. i < n) l (t .0) 0 h (t .1)) (rw (all-in (λ i. among i l ≡ true) l (t .0) 0 (among-self l) (t .1)) (t .2))))
     (λ e. rw e (none-any (λ i. among i l && f i) n (λ i k. by-test (among i l) (λ t. rw (t, all-among (λ i. f i ≡ false) l (any-false f l e) i t)) (λ t. rw t))))
 
 -- the numbers below n that pass

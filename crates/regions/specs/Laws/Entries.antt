@@ -63,6 +63,17 @@ entry-found r n h e =
     let f = find-found (λ i. eqb (nameAt r i) n) 64 64 e in
     rw (entry-find r n h) (f .0, eqb-true (nameAt r (findOr (λ i. eqb (nameAt r i) n) 64 (upTo 64))) n (f .1))
 
+pub entry-named : (names : List ℕ) (n : ℕ) → entryIn names n < 64 → getD names (entryIn names n) 0 ≡ n
+unfolding entryIn
+entry-named names n = go (eqb n 0)
+  where
+    has : ℕ → Bool
+    has i = eqb (getD names i 0) n
+
+    go : (b : Bool) → pick b 64 (findOr has 64 (upTo 64)) < 64 → getD names (pick b 64 (findOr has 64 (upTo 64))) 0 ≡ n
+    go true h = absurd (omega arith)
+    go false h = by-test (anyOf has (upTo 64)) (λ e. eqb-true (getD names (findOr has 64 (upTo 64)) 0) n (find-found has 64 64 e .1)) (λ e. absurd (omega (arith, find-none has 64 (upTo 64) e)))
+
 -- the entries in use and those not in use are all
 pub live-rest : (names : List ℕ) → liveIn names + countOf (λ i. eqb (getD names i 0) 0) (upTo 64) ≡ 64
 unfolding liveIn
@@ -90,15 +101,3 @@ entry-most names n = go (eqb n 0)
     go : (b : Bool) → pick b 64 (findOr (λ i. eqb (getD names i 0) n) 64 (upTo 64)) ≤ 64
     go true = omega arith
     go false = all-find (λ i. i ≤ 64) (λ i. eqb (getD names i 0) n) 64 (upTo 64) (all-upTo (λ i. i ≤ 64) 64 (λ i h. omega arith)) (omega arith)
-
--- the entry found has the name
-pub entry-named : (names : List ℕ) (n : ℕ) → entryIn names n < 64 → getD names (entryIn names n) 0 ≡ n
-unfolding entryIn
-entry-named names n = go (eqb n 0)
-  where
-    has : ℕ → Bool
-    has i = eqb (getD names i 0) n
-
-    go : (b : Bool) → pick b 64 (findOr has 64 (upTo 64)) < 64 → getD names (pick b 64 (findOr has 64 (upTo 64))) 0 ≡ n
-    go true h = absurd (omega arith)
-    go false h = by-test (anyOf has (upTo 64)) (λ e. eqb-true (getD names (findOr has 64 (upTo 64)) 0) n (find-found has 64 64 e .1)) (λ e. absurd (omega (arith, find-none has 64 (upTo 64) e)))
