@@ -53,6 +53,12 @@ unfolding nameTests
 names-agree f g e [] x y h = h tt
 names-agree f g e (r ∷ rs) x y h = step _ (g r) 2 _ _ (e r) (λ d. step _ (eqb r 1) 3 _ _ refl (λ o. names-agree f g e rs x y (λ ns. h ((d, o), ns))))
 
+-- names that all pass: the tests after them decide
+pub names-go : (gone : ℕ → Bool) (rs : List ℕ) (ts : List (Bool × ℕ)) → All (λ r. (gone r ≡ false) × (eqb r 1 ≡ false)) rs → reason (nameTests gone rs ++ ts) ≡ reason ts
+unfolding nameTests
+names-go gone [] ts h = refl
+names-go gone (r ∷ rs) ts h = rw (h .0 .0, h .0 .1) (names-go gone rs ts (h .1))
+
 numbers : (L : Model) (c : Call) → every positive (checks L c) ≡ true
 unfolding checks
 numbers L (declare ms) = refl
