@@ -21,7 +21,7 @@ static uint32_t heap[WORDS];
 
 // Makes the calls `once` on a fresh store with the kinds and the frame of crates/bench, then the calls `again` so many times, then n calls that `which` says.
 typedef uint32_t run(uint32_t *heap, size_t words, const uint32_t *once, size_t n_once, const uint32_t *again, size_t n_again, uint32_t times, uint32_t which, uint32_t n);
-run bench_changing, bench_pairs, bench_answering, bench_again;
+run bench_changing, bench_pairs, bench_answering, bench_again, bench_deletes;
 
 // A call as crates/bench reads it: its number and three arguments.
 #define CALL(number, a, b, c) ((number) * 1000000 + (a) * 10000 + (b) * 100 + (c))
@@ -41,6 +41,10 @@ run bench_changing, bench_pairs, bench_answering, bench_again;
 #define FIVE THREE, SET_POINTER(0, 0, 2), PUT(0, 1, 7), SET_POINTER(1, 0, 2), PUT(1, 1, 7), NEW_REGION, ALLOCATE(3, 5, 3), NEW_REGION, ALLOCATE(4, 6, 3)
 // Every slot of the top frame leads to slot 0's object.
 #define COPIES COPY(0, 1), COPY(0, 2), COPY(0, 3), COPY(0, 4), COPY(0, 5), COPY(0, 6), COPY(0, 7)
+
+// An object of three free pointers in a slot, all of them to what another slot holds; and two objects in turn, in two regions, each leading to the object made before it.
+#define LEADING(slot, region, value) ALLOCATE(slot, region, 4), SET_POINTER(slot, 0, value), SET_POINTER(slot, 1, value), SET_POINTER(slot, 2, value)
+#define PAIR(region) LEADING(0, region, 1), LEADING(1, region + 1, 0)
 
 struct store {
     const uint32_t *once;
@@ -62,6 +66,10 @@ static const struct store laden = {CODES(FIVE, COPIES), CODES(PUSH(8), FETCH(0, 
 static const struct store full = {CODES(NEW_REGION, ALLOCATE(0, 2, 2), NEW_REGION), CODES(ALLOCATE(1, 3, 2), SET_POINTER(1, 0, 0)), 8160};
 // Region 5 with 16 pages full of 256 objects of three free pointers, 768 in all, into regions 2 to 4; no slot leads into it.
 static const struct store heavy = {CODES(THREE, NEW_REGION), CODES(ALLOCATE(3, 5, 4), SET_POINTER(3, 0, 0), SET_POINTER(3, 1, 1), SET_POINTER(3, 2, 2), CLEAR(3)), 256};
+// Regions 2 to 17 with 16 pages each, all 256, full of 256 objects of three free pointers: each leads into the region before, those of region 2 are null. No slot leads anywhere.
+// So the regions can be deleted one after the other from the last on.
+#define EIGHT NEW_REGION, NEW_REGION, NEW_REGION, NEW_REGION, NEW_REGION, NEW_REGION, NEW_REGION, NEW_REGION
+static const struct store filled = {CODES(EIGHT, EIGHT), CODES(PAIR(2), PAIR(4), PAIR(6), PAIR(8), PAIR(10), PAIR(12), PAIR(14), PAIR(16), CLEAR(0), CLEAR(1)), 256};
 
 // Regions 2 to 17, each below the one before: an object with a word marked 3 in slot 0, at level 16, and two objects in slots 1 and 2 at level 1, the end of the way up.
 static const struct store deep = {CODES(NEW_REGION, SUBREGION(2), SUBREGION(3), SUBREGION(4), SUBREGION(5), SUBREGION(6), SUBREGION(7), SUBREGION(8), SUBREGION(9), SUBREGION(10), SUBREGION(11), SUBREGION(12), SUBREGION(13), SUBREGION(14), SUBREGION(15), SUBREGION(16), ALLOCATE(0, 17, 5), ALLOCATE(1, 2, 2), ALLOCATE(2, 2, 2)), CODES(0), 0};
@@ -107,6 +115,8 @@ static const struct bench benches[] = {
     {"report_full", bench_answering, &full, 20, 32644, 0, MOST, 4},
     {"report_frames", bench_answering, &laden, 20, 514, 0, MOST, 100},
     {"delete_pages", bench_again, &heavy, 23, 32, 1, MOST, 20},
+    {"delete_one_by_one", bench_deletes, &filled, 23, 512, 1, MOST, 4},
+    {"delete_all", bench_deletes, &filled, 24, 512, 1, MOST, 4},
     {"audit_plain", bench_answering, &plain, 22, 2, 0, MOST, 20},
     {"audit_full", bench_answering, &full, 22, 2, 0, MOST, 2},
 };

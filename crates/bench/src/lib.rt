@@ -2,6 +2,7 @@
 // A call costs the difference of a run of 2n and one of n, divided by n: making the store cancels out.
 // `once`, `again` and `times` say which store, as `prepared_for` reads them; `which` says which call, by its number in `store::call`, of a pair by the number of one of the two.
 // Each gives a sum of the replies, or of their grounds of refusal alone where the state changes, so that C can see that the calls were accepted, and none of them is left out by the compiler.
+use state::Done;
 use state::Reply;
 use state::State;
 
@@ -251,6 +252,60 @@ pub extern "C" fn bench_again(
                 sum = noted(sum, d.reply);
             }
         }
+    }
+    ended(t, heap, sum)
+}
+
+// The deletes of these regions, one after the other, and a reply with the sum of what they gave.
+fn one_by_one(s: State, heap: &[u32], list: &[u32]) -> Done {
+    let mut t = s;
+    let mut sum: u32 = 0;
+    let mut i: usize = 0;
+    while i < list.len() {
+        let d = store::delete(t, heap, list[i]);
+        i += 1;
+        t = d.state;
+        sum = noted(sum, d.reply);
+    }
+    Done {
+        state: t,
+        reply: Reply {
+            refusal: 0,
+            a: sum,
+            b: 0,
+            c: 0,
+            d: 0,
+        },
+    }
+}
+
+// Regions 17 to 2 deleted, each time on the same state: 24 together, 23 one after the other.
+#[no_mangle]
+pub extern "C" fn bench_deletes(
+    heap: &mut [u32],
+    once: &[u32],
+    again: &[u32],
+    times: u32,
+    which: u32,
+    n: u32,
+) -> u32 {
+    // As in `bench_changing`.
+    if MOST < n {
+        return bench_deletes(heap, once, again, times, which, MOST);
+    }
+    let list = [17u32, 16, 15, 14, 13, 12, 11, 10, 9, 8, 7, 6, 5, 4, 3, 2];
+    let s = prepared_for(heap, once, again, times);
+    let mut t = s;
+    let mut sum: u32 = 0;
+    let mut i: u32 = 0;
+    while i < n {
+        i += 1;
+        let d = match which {
+            24 => store::delete_all(s, heap, &list),
+            _ => one_by_one(s, heap, &list),
+        };
+        t = d.state;
+        sum = noted(sum, d.reply);
     }
     ended(t, heap, sum)
 }

@@ -1,1 +1,6 @@
--- Laws, proved: nothing here has to be believed.
+-- The parts of the call and its outcome say the same.
+pub mod Tags
+pub mod Gone
+pub mod Counted
+pub mod Tests
+pub mod Cases

@@ -1,30 +1,31 @@
 // Several regions at once, marked by tag: what keeps them from being deleted together, and what goes with them.
 ghost use mathlib.Core.Path.{_≡_};
-ghost use Rattle.lists.specs.Lists.{countOf, upTo};
+ghost use Prim.Native.Nat.{_<_};
 ghost use Rattle.kinds.specs.Kinds.{kindsWith};
 ghost use Rattle.regions.specs.Regions.{closedIn};
 ghost use Rattle.regions.specs.Laws.Steps.{leavings};
 ghost use Rattle.pages.specs.Pages.{pageCountIn, pagesWith};
 ghost use Rattle.outcomes.specs.Store.{ledAmongIn};
-ghost use Rattle.members.specs.Members.{isMember};
+ghost use Rattle.lists.specs.Ticks.{tickAt};
 ghost use Rattle.joint_parts.specs.Joint.{stray, stillCounted, outFrom, freedTo, heldBy, namesLeft};
 
-// Whether entry i has a live region that is no member, right below one that is.
-fn stray<'a>(names: &'a [u32], parents: &'a [u8], members: &'a [u8], i: u32) -> bool
-    ensures { λ r. ⌜ r ≡ stray (now (names .entry)) (now (parents .entry)) (isMember (now (members .entry))) i ⌝ }
+// Whether entry e has a live region that is no member, right below one that is.
+fn stray<'a>(names: &'a [u32], parents: &'a [u8], members: &'a [u8], e: u32) -> bool
+    requires { ⌜ e < 64 ⌝ }
+    ensures { λ r. ⌜ r ≡ stray (now (names .entry)) (now (parents .entry)) (tickAt (now (members .entry))) e ⌝ }
 {
-    if regions::name_at(names, i) == 0 {
+    if regions::name_at(names, e) == 0 {
         return false;
     }
-    if members::is_member(members, i + 1) {
+    if members::is_member(members, e + 1) {
         return false;
     }
-    members::is_member(members, regions::parent_at(parents, i))
+    members::is_member(members, regions::parent_at(parents, e))
 }
 
 // Whether every live region right below a member is a member.
 pub fn closed<'a>(names: &'a [u32], parents: &'a [u8], members: &'a [u8]) -> bool
-    ensures { λ r. ⌜ r ≡ closedIn (now (names .entry)) (now (parents .entry)) (isMember (now (members .entry))) ⌝ }
+    ensures { λ r. ⌜ r ≡ closedIn (now (names .entry)) (now (parents .entry)) (tickAt (now (members .entry))) ⌝ }
 {
     let mut i: u32 = 0;
     while i < 64 {
@@ -45,7 +46,7 @@ pub fn led<'a>(
     owners: &'a [u8],
     members: &'a [u8],
 ) -> bool
-    ensures { λ r. ⌜ r ≡ ledAmongIn standing counted (now (widths .entry)) (now (slots .entry)) (now (owners .entry)) (isMember (now (members .entry))) ⌝ }
+    ensures { λ r. ⌜ r ≡ ledAmongIn standing counted (now (widths .entry)) (now (slots .entry)) (now (owners .entry)) (tickAt (now (members .entry))) ⌝ }
 {
     let n = frames::frame_count(standing);
     let mut found = false;
@@ -68,7 +69,7 @@ pub fn led<'a>(
 
 // Whether some member's count is not 0.
 pub fn still_counted<'a>(counts: &'a [u32], members: &'a [u8]) -> bool
-    ensures { λ r. ⌜ r ≡ stillCounted (now (counts .entry)) (isMember (now (members .entry))) ⌝ }
+    ensures { λ r. ⌜ r ≡ stillCounted (now (counts .entry)) (tickAt (now (members .entry))) ⌝ }
 {
     let mut i: u32 = 0;
     while i < 64 {
@@ -94,7 +95,7 @@ pub fn scan<'a>(
     members: &'a [u8],
     counts: &mut [u32],
 )
-    ensures { λ _. ⌜ now (counts .exit) ≡ leavings (now (counts .entry)) (outFrom (kindsWith declared (now (sizes .entry)) (now (marks .entry))) (now (heap .entry)) (pagesWith made (now (owners .entry)) (now (taken .entry))) (isMember (now (members .entry))) (pageCountIn made)) ⌝ }
+    ensures { λ _. ⌜ now (counts .exit) ≡ leavings (now (counts .entry)) (outFrom (kindsWith declared (now (sizes .entry)) (now (marks .entry))) (now (heap .entry)) (pagesWith made (now (owners .entry)) (now (taken .entry))) (tickAt (now (members .entry))) (pageCountIn made)) ⌝ }
 {
     let n = pages::page_count(made);
     let mut j: u32 = 0;
@@ -110,7 +111,7 @@ pub fn scan<'a>(
 
 // The members' pages are free. Gives how many there were.
 pub fn give_back(made: u32, owners: &mut [u8], members: &[u8]) -> u32
-    ensures { λ r. ⌜ (r ≡ heldBy (now (owners .entry)) (isMember (now (members .entry))) (pageCountIn made)) × (now (owners .exit) ≡ freedTo (now (owners .entry)) (isMember (now (members .entry))) (pageCountIn made)) ⌝ }
+    ensures { λ r. ⌜ (r ≡ heldBy (now (owners .entry)) (tickAt (now (members .entry))) (pageCountIn made)) × (now (owners .exit) ≡ freedTo (now (owners .entry)) (tickAt (now (members .entry))) (pageCountIn made)) ⌝ }
 {
     let n = pages::page_count(made);
     let mut number: u32 = 0;
@@ -127,7 +128,7 @@ pub fn give_back(made: u32, owners: &mut [u8], members: &[u8]) -> u32
 
 // The members' entries are given up.
 pub fn give_up(names: &mut [u32; 64], members: &[u8])
-    ensures { λ _. ⌜ now (names .exit) ≡ namesLeft (now (names .entry)) (isMember (now (members .entry))) 64 ⌝ }
+    ensures { λ _. ⌜ now (names .exit) ≡ namesLeft (now (names .entry)) (tickAt (now (members .entry))) 64 ⌝ }
 {
     let mut i: u32 = 0;
     while i < 64 {

@@ -3,7 +3,7 @@
 -- Assumes nothing.
 use mathlib.Core.List.{List, [], _∷_, _++_}
 use Prim.Native.Nat.{ℕ}
-use lib.ListN.{set, replicate}
+use lib.ListN.{set, take, replicate}
 use Rattle.regions.specs.Regions.{withRegion}
 use Rattle.outcomes.specs.Store.{Store, frames, kinds, regions, pages}
 use Rattle.outcomes.specs.Outcome.{withFrames, withKinds, withRegions, withPages, withHeap}
@@ -153,6 +153,10 @@ setTaken x S = let p = pages S in pagesBy S (p .made) (p .owners) x
 
 abbrev pub setHeap : List ℕ → Store → Store
 setHeap x S = withHeap S x
+
+-- of a memory that a delete left: the counts and the names of the first four entries, the owners of the first four pages, m
+abbrev pub reads : Store → List (List ℕ)
+reads S = take 4 ((regions S) .counts) ∷ take 4 ((regions S) .names) ∷ take 4 ((pages S) .owners) ∷ ((frames S) .counted ∷ []) ∷ []
 
 -- ---- memories
 

@@ -1,0 +1,84 @@
+use mathlib.Core.Path.{_≡_, refl}
+use borrow.Author.Needs.{needs}
+use lib.ListN.{length}
+use Rattle.frames.specs.Frames.{topFrame, raised}
+use Rattle.calls_delete_all.proofs.Laws.{delete-all-refused, delete-all-pointed, delete-all-effect}
+use Rattle.calls_delete_all.proofs.delete_all.Statement.{statement}
+use Rattle.calls_delete_all.proofs.delete_all.Tie as tie
+
+-- places that were passed
+abbrev frames-entered : tie.After-give-back → tie.After-enter-frames
+frames-entered c = c .before .before .before .before .before
+
+abbrev asked : tie.After-enter-frames → tie.After-pointed
+asked c = c .before .before .before .before .before .before .before .before .before .before
+
+abbrev scanned : tie.After-pointed → tie.After-scan
+scanned c = c .before .before .before .before .before .before .before .before .before .before .before
+
+abbrev shaped : tie.After-scan → tie.After-counts-shaped
+shaped c = c .before .before .before .before .before .before .before .before .before .before .before .before .before
+
+abbrev marked : tie.After-counts-shaped → tie.After-members2
+marked c = c .before .before .before
+
+-- what the types say
+pages-listed : (c : tie.Start) → length (c .args .s .pages .owners) ≡ 256
+pages-listed c = search needs
+
+returns : tie.Need-returns
+returns c = delete-all-refused _ _ _ (c .before .before .before .list-refusal .ensures .0) _ _ (c .before .if1 .taken) (c .refused .ensures) refl
+
+returns-2 : tie.Need-returns-2
+returns-2 c =
+    let p = c .before .before in
+    let s = scanned p in
+    let z = shaped s in
+    let i = z .before .before in
+    let l = i .before .before in
+    delete-all-pointed _ _ _ (l .list-refusal .ensures .0) (i .if1 .left) _ _ _ (l .list-refusal .ensures .1) (z .counts-shaped .ensures) (s .scan .ensures) (p .pointed .ensures)
+    _ _ (c .before .if2 .taken) (c .refused2 .ensures) refl
+
+returns-3 : tie.Need-returns-3
+unfolding raised topFrame
+returns-3 c =
+    let t = c .before .before in
+    let u = t .before in
+    let b = u .before .before .before .before .before .before in
+    let e = frames-entered b in
+    let p = asked e in
+    let s = scanned p in
+    let z = shaped s in
+    let i = z .before .before in
+    let l = i .before .before in
+    delete-all-effect _ _ _ (l .list-refusal .ensures .0) (i .if1 .left) _ _ _ (l .list-refusal .ensures .1) (z .counts-shaped .ensures) (s .scan .ensures) (p .pointed .ensures)
+    _ _ _ _ _ _ (e .before .before .before .before .before .before .before .before .before .if2 .left) (c .gives .ensures) (pages-listed (l .before .before .before .before .before .before .before .before .before)) (e .enter-frames .ensures) (b .give-back .ensures .0) (b .give-back .ensures .1) (u .give-up .ensures)
+    (rw (t .top .ensures)) refl refl refl refl
+
+pub delete-all-spec : {M : Type 1} → statement M
+delete-all-spec =
+    tie.close
+    (tie.spec
+    (λ c. search needs)
+    (λ c κs. search needs)
+    (λ c κs. search needs)
+    returns
+    (λ c κs. search needs)
+    (λ c. search needs)
+    (λ c. search needs)
+    (λ c κs. search needs)
+    (λ c. search needs)
+    (λ c. search needs)
+    (λ c κs. search needs)
+    (λ c κs. search needs)
+    returns-2
+    (λ c. search needs)
+    (λ c κs. search needs)
+    (λ c. search needs)
+    (λ c. search (needs, marked (shaped (scanned (asked (c .before .before .before .before)))) .members2 .given))
+    (λ c κs. search needs)
+    (λ c. search (needs, marked (shaped (scanned (asked (frames-entered (c .before .before .before .before .before))))) .members2 .given))
+    (λ c κs. search needs)
+    (λ c κs. search needs)
+    (λ c κs. search needs)
+    returns-3)
