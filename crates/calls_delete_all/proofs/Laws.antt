@@ -21,8 +21,8 @@ use Rattle.outcomes.specs.Store.{Store, frames, kinds, regions, pages, ledAmong
 use Rattle.outcomes.specs.Outcome.{Outcome, Accepted, refusal, recounted, newlyIn, newlyCounted, deleted}
 use Rattle.outcomes.specs.Laws.Steps.{by-refusal, by-effect, by-parts}
 use Rattle.lists.specs.Ticks.{tickAt, ticked}
-use Rattle.members.specs.Members.{tagIn}
-use Rattle.members.specs.Laws.Marked.{marked-among}
+use Rattle.members.specs.Members.{tagBy}
+use Rattle.members.specs.Laws.Ticked.{ticked-among}
 use Rattle.joint_parts.specs.Joint.{stillCounted, outFrom, freedTo, heldBy, namesLeft}
 use Rattle.calls_delete_all.specs.DeleteAll.{listTests}
 use Rattle.calls_delete_all.specs.Laws.Tags.{tags-most}
@@ -37,13 +37,13 @@ regionsWith g names counts = record { given = g .given; names = names; parents =
 module _ (S : Store) (rs : List ℕ) where
   -- the marks of those named
   abbrev marks : List ℕ
-  marks = ticked (replicate 65 0) (map (tagIn ((regions S) .names)) rs)
+  marks = ticked (replicate 65 0) (map (tagBy ((regions S) .names)) rs)
 
   -- g is what a function gave for the first tests
   module _ (g : ℕ) (asked : g ≡ reason (listTests ((pages S) .made) (length (S .heap)) rs ((regions S) .names) ((regions S) .parents) (tickAt marks))) where
     named : Live S rs → tickAt marks ≡ (λ t. among t (tags S rs))
-    unfolding tagIn tagOf entryOf
-    named live = marked-among (tags S rs) (tags-most (regions S) rs live)
+    unfolding tagBy tagOf entryOf
+    named live = ticked-among (tags S rs) (tags-most (regions S) rs live)
 
     pub delete-all-refused : (a : Answer) (T : Store) → g ≢ 0 → a ≡ refusedBy g → T ≡ S → Outcome (deleteAll rs) S a T
     delete-all-refused a T z p q = by-refusal (deleteAll rs) S a T g (refused-first S rs (tickAt marks) named g asked z) z p q

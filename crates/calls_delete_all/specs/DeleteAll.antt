@@ -6,9 +6,9 @@ use Prim.Native.Nat.{ℕ}
 use Rattle.model.specs.Calls.{_yields_, wrongNames, nameTests}
 use Rattle.regions.specs.Regions.{closedIn}
 use Rattle.pages.specs.Pages.{wrongLengthIn}
-use Rattle.members.specs.Members.{deadIn}
+use Rattle.members.specs.Members.{deadBy}
 
 -- a heap of so many words, a list of names, the entries' names and the tags of the regions above; the members by their tags
 unfoldable pub listTests : ℕ → ℕ → List ℕ → List ℕ → List ℕ → (ℕ → Bool) → List (Bool × ℕ)
 listTests made words list names parents member =
-    wrongLengthIn made words yields 21 ∷ wrongNames list yields 22 ∷ nameTests (deadIn names) list ++ (not (closedIn names parents member) yields 18 ∷ [])
+    wrongLengthIn made words yields 21 ∷ wrongNames list yields 22 ∷ nameTests (deadBy names) list ++ (not (closedIn names parents member) yields 18 ∷ [])

@@ -9,7 +9,7 @@ ghost use Rattle.model.specs.Calls.{reason};
 ghost use Rattle.outcomes.specs.Store.{ledAmongIn};
 ghost use Rattle.outcomes.specs.Outcome.{Outcome, answerOf, store};
 ghost use Rattle.lists.specs.Ticks.{tickAt, ticked};
-ghost use Rattle.members.specs.Members.{tagIn};
+ghost use Rattle.members.specs.Members.{tagBy};
 ghost use Rattle.joint_parts.specs.Joint.{stillCounted};
 ghost use Rattle.calls_delete_all.specs.DeleteAll.{listTests};
 
@@ -22,7 +22,7 @@ fn list_refusal<'a>(
     parents: &'a [u8],
     members: &mut [u8],
 ) -> u32
-    ensures { λ r. ⌜ (r ≡ reason (listTests made words (now (list .entry)) (now (names .entry)) (now (parents .entry)) (tickAt (ticked (now (members .entry)) (map (tagIn (now (names .entry))) (now (list .entry))))))) × (r ≡ 0 → now (members .exit) ≡ ticked (now (members .entry)) (map (tagIn (now (names .entry))) (now (list .entry)))) ⌝ }
+    ensures { λ r. ⌜ (r ≡ reason (listTests made words (now (list .entry)) (now (names .entry)) (now (parents .entry)) (tickAt (ticked (now (members .entry)) (map (tagBy (now (names .entry))) (now (list .entry))))))) × (r ≡ 0 → now (members .exit) ≡ ticked (now (members .entry)) (map (tagBy (now (names .entry))) (now (list .entry)))) ⌝ }
 {
     if pages::wrong_length(made, words) {
         return 21;
@@ -30,7 +30,7 @@ fn list_refusal<'a>(
     if members::wrong_names(list) {
         return 22;
     }
-    let g = members::mark(names, list, members);
+    let g = members::tick(names, list, members);
     if g != 0 {
         return g;
     }

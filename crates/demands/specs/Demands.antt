@@ -50,9 +50,9 @@ pub data Start : Store → History → Type 0 where
   afterMake : {S : Store} {h : History} (heap : List ℕ) → makes (length heap) ≡ true → MakeOutcome heap (gives []) S → h ≡ opening (length heap / 64) → Start S h
   afterAudit : {S : Store} {h : History} → Sized S → Outcome audit S (gives (1 ∷ [])) S → h ≡ begin S → Start S h
 
--- a list of names that passes 22, 2 and 3: 1 to 16 of them, none twice, each of a live region and not of region 1 (document 02, card 2)
-abbrev pub named : History → List ℕ → Bool
-named h l = not (wrongNames l) && every (λ r. isLive h r && not (eqb r 1)) l
+-- a list that passes 22, 2 and 3: 1 to 16 names, none twice, each of a live region and none of region 1 (document 02, card 2)
+abbrev pub namesPass : History → List ℕ → Bool
+namesPass h l = not (wrongNames l) && every (λ r. isLive h r && not (eqb r 1)) l
 
 -- what holds of a store and what its calls told
 pub record Holds (h : History) (S : Store) : Type 0 where
@@ -69,10 +69,10 @@ pub record Holds (h : History) (S : Store) : Type 0 where
   -- if the next call deletes a live region, not region 1, it is accepted just where the region has no live subregion and no outside pointer
   pub deletes : (r : ℕ) → isLive h r ≡ true → r ≢ 1 → (a : Answer) (T : Store) → Outcome (delete r) S a T
       → (a .refusal ≡ 0) ↔ ((subregions h r ≡ 0) × (outside h S r ≡ 0))
-  -- if the next call deletes the regions of such a list together, it is accepted just where each live subregion of a member is a member, and no slot, and no word marked 1 of
-  -- another region's object, leads into a member (document 02, card 2)
-  pub together : (l : List ℕ) → named h l ≡ true → (a : Answer) (T : Store) → Outcome (deleteAll l) S a T
-      → (a .refusal ≡ 0) ↔ ((closed h l ≡ true) × All (λ r. outsideBut h S l r ≡ 0) l)
+  -- if the next call is a joint delete, of whatever list, it is accepted just where the list passes, no live region right below a member is left out, and every outside pointer
+  -- of a member is a word of a member's object (document 02, card 2)
+  pub together : (l : List ℕ) (a : Answer) (T : Store) → Outcome (deleteAll l) S a T
+      → (a .refusal ≡ 0) ↔ ((namesPass h l ≡ true) × (closed h l ≡ true) × All (λ r. outsideBut h S l r ≡ 0) l)
 
 -- Demand 3. All of it, after any run from a start; the run may be empty.
 unfoldable pub Demand3 : Type 0

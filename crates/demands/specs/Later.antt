@@ -2,7 +2,7 @@
 -- Assumes nothing.
 use mathlib.Core.Path.{_≡_}
 use mathlib.Core.Logic.{_↔_, _≢_, _⊎_}
-use mathlib.Core.Bool.{Bool, true, false, not, _&&_, _||_}
+use mathlib.Core.Bool.{Bool, true, not, _&&_, _||_}
 use mathlib.Core.List.{List, [], _∷_}
 use Prim.Native.Nat.{ℕ, zero, suc, _-_, _≤_, _<_}
 use lib.Dec.{eqb}
@@ -13,8 +13,8 @@ use Rattle.regions.specs.Regions.{parentAt, entryOf, tagOf, subregionsOf}
 use Rattle.outcomes.specs.Store.{Store, regions, slot}
 use Rattle.outcomes.specs.History.{History, begin, isLive, parentOf, aboveOf, pointersOf, at, homeOf}
 use Rattle.outcomes.specs.Sound.{soundLevels, soundDistinct, soundParents}
-use Rattle.outcomes.specs.Shape.{Sized, Shaped}
-use Rattle.outcomes.specs.Outcome.{Outcome, badLength, dead}
+use Rattle.outcomes.specs.Shape.{Sized, Bits32}
+use Rattle.outcomes.specs.Outcome.{Outcome, refusal}
 use Rattle.outcomes.specs.Runs.{Event, Run}
 use Rattle.demands.specs.Told.{history}
 use Rattle.demands.specs.Demands.{Start}
@@ -80,14 +80,12 @@ AllTogether =
 abbrev pub SameAsDelete : Store → ℕ → Type 0
 SameAsDelete S r = (a : Answer) (T : Store) → Outcome (deleteAll (r ∷ [])) S a T ↔ Outcome (delete r) S a T
 
--- region r, where delete gets as far as its subregions, is entered as its own region above and has no other subregion. Delete finds a subregion, and a list of one finds a member
+-- delete refuses region r by 18, and only since it is entered as its own region above: a list of one finds a member there, and no subregion left out
 abbrev pub OnlyItself : Store → ℕ → Type 0
-OnlyItself S r =
-    let g = regions S in
-    (badLength S ≡ false) × (dead S r ≡ false) × (r ≢ 1) × (parentAt g (entryOf g r) ≡ tagOf g r) × (subregionsOf g (tagOf g r) ≡ 1)
+OnlyItself S r = let g = regions S in (refusal S (delete r) ≡ 18) × (parentAt g (entryOf g r) ≡ tagOf g r) × (subregionsOf g (tagOf g r) ≡ 1)
 
--- so on every memory of the language's types but those; and after every list of calls from every start, of every name
+-- so on every memory, whose stored counts have 32 bits as their type says, but just there; and after every list of calls from every start, of every name
 unfoldable pub JointOfOne : Type 0
 JointOfOne =
-    ((S : Store) → Shaped S → (r : ℕ) → SameAsDelete S r ↔ (OnlyItself S r → ⊥))
+    ((S : Store) → Bits32 ((regions S) .counts) → (r : ℕ) → SameAsDelete S r ↔ (OnlyItself S r → ⊥))
     × ((S : Store) (h : History) → Start S h → (es : List Event) (T : Store) → Run S es T → (r : ℕ) → SameAsDelete T r)

@@ -1,6 +1,6 @@
 -- Several regions at once, those whose tags pass a test: what of them is in a page, a count, an entry. The call's outcome says the same by the list of names (outcomes, Outcome).
 -- Assumes nothing.
-use mathlib.Core.Bool.{Bool, not, _&&_, _||_}
+use mathlib.Core.Bool.{Bool, not, _&&_}
 use mathlib.Core.List.{List, [], map}
 use Prim.Native.Nat.{ℕ, suc}
 use lib.Dec.{eqb, ltb}
@@ -10,10 +10,6 @@ use Rattle.kinds.specs.declared.Kinds.{Kinds}
 use Rattle.pages.specs.declared.Pages.{Pages}
 use Rattle.pages.specs.Pages.{ownerAt}
 use Rattle.objects.specs.Objects.{freeWordsOn, outOf}
-
--- entry i has a live region whose tag does not pass, right below one whose tag does
-unfoldable pub stray : List ℕ → List ℕ → (ℕ → Bool) → ℕ → Bool
-stray names parents member i = not (eqb (getD names i 0) 0 || not (member (getD parents i 0)) || member (suc i))
 
 -- the count of a region that passes is not 0
 unfoldable pub stillCounted : List ℕ → (ℕ → Bool) → Bool

@@ -1,18 +1,19 @@
-// Several regions at once, marked by tag: what keeps them from being deleted together, and what goes with them.
+// Several regions at once, ticked by tag: what keeps them from being deleted together, and what goes with them.
 ghost use mathlib.Core.Path.{_≡_};
+ghost use mathlib.Core.Bool.{not};
 ghost use Prim.Native.Nat.{_<_};
 ghost use Rattle.kinds.specs.Kinds.{kindsWith};
-ghost use Rattle.regions.specs.Regions.{closedIn};
+ghost use Rattle.regions.specs.Regions.{followsIn, closedIn};
 ghost use Rattle.regions.specs.Laws.Steps.{leavings};
 ghost use Rattle.pages.specs.Pages.{pageCountIn, pagesWith};
 ghost use Rattle.outcomes.specs.Store.{ledAmongIn};
 ghost use Rattle.lists.specs.Ticks.{tickAt};
-ghost use Rattle.joint_parts.specs.Joint.{stray, stillCounted, outFrom, freedTo, heldBy, namesLeft};
+ghost use Rattle.joint_parts.specs.Joint.{stillCounted, outFrom, freedTo, heldBy, namesLeft};
 
 // Whether entry e has a live region that is no member, right below one that is.
 fn stray<'a>(names: &'a [u32], parents: &'a [u8], members: &'a [u8], e: u32) -> bool
     requires { ⌜ e < 64 ⌝ }
-    ensures { λ r. ⌜ r ≡ stray (now (names .entry)) (now (parents .entry)) (tickAt (now (members .entry))) e ⌝ }
+    ensures { λ r. ⌜ r ≡ not (followsIn (now (names .entry)) (now (parents .entry)) (tickAt (now (members .entry))) e) ⌝ }
 {
     if regions::name_at(names, e) == 0 {
         return false;
@@ -110,7 +111,7 @@ pub fn scan<'a>(
 }
 
 // The members' pages are free. Gives how many there were.
-pub fn give_back(made: u32, owners: &mut [u8], members: &[u8]) -> u32
+pub fn give_back(made: u32, owners: &mut [u8; 256], members: &[u8]) -> u32
     ensures { λ r. ⌜ (r ≡ heldBy (now (owners .entry)) (tickAt (now (members .entry))) (pageCountIn made)) × (now (owners .exit) ≡ freedTo (now (owners .entry)) (tickAt (now (members .entry))) (pageCountIn made)) ⌝ }
 {
     let n = pages::page_count(made);
@@ -118,7 +119,7 @@ pub fn give_back(made: u32, owners: &mut [u8], members: &[u8]) -> u32
     let mut j: u32 = 0;
     while j < n {
         if members::is_member(members, pages::owner_at(owners, j)) {
-            cells::store_byte(owners, j as usize, 0);
+            pages::put_byte(owners, j, 0);
             number += 1;
         }
         j += 1;

@@ -14,7 +14,7 @@ use Rattle.lists.specs.Laws.Tests.{by-test}
 use Rattle.model.specs.Calls.{reason, nameTests}
 use Rattle.regions.specs.Regions.{entryIn}
 use Rattle.lists.specs.Ticks.{ticked}
-use Rattle.members.specs.Members.{tagIn, deadIn, nameRefusal}
+use Rattle.members.specs.Members.{tagBy, deadBy, nameRefusal}
 
 -- what is left past the end
 pub none-left : (l : List ℕ) (i : ℕ) → length l ≤ i → drop i l ≡ []
@@ -30,10 +30,10 @@ decided g h k d = rw (ne-eqb g 0 d)
 
 -- the first refusal of the names left
 abbrev pub refused : List ℕ → List ℕ → ℕ
-refused names l = reason (nameTests (deadIn names) l)
+refused names l = reason (nameTests (deadBy names) l)
 
 refused-next : (names : List ℕ) (n : ℕ) (l : List ℕ) → refused names (n ∷ l) ≡ orElse (nameRefusal (entryIn names n) n) (refused names l)
-unfolding nameTests deadIn nameRefusal
+unfolding nameTests deadBy nameRefusal
 refused-next names n l = go (not (ltb (entryIn names n) 64)) (eqb n 1) (refused names l)
   where
     go : (a b : Bool) (k : ℕ) → pick a 2 (pick b 3 k) ≡ orElse (pick a 2 (pick b 3 0)) k
@@ -68,6 +68,6 @@ module _ (l : List ℕ) (i : ℕ) (h : i < length l) where
     undecided g r z q = rw (z, q, entry, come, next) (sym (refused-next names (getD l i 0) (drop (i + 1) l)))
 
     -- ms are the marks that were left
-    pub marks-next : (m ms : List ℕ) → ms ≡ set m (e + 1) 1 → ticked ms (map (tagIn names) (drop (i + 1) l)) ≡ ticked m (map (tagIn names) (drop i l))
-    unfolding ticked tagIn
+    pub marks-next : (m ms : List ℕ) → ms ≡ set m (e + 1) 1 → ticked ms (map (tagBy names) (drop (i + 1) l)) ≡ ticked m (map (tagBy names) (drop i l))
+    unfolding ticked tagBy
     marks-next m ms q = rw (q, entry, come, next)

@@ -1,3 +1,3 @@
 -- Laws, proved: nothing here has to be believed.
-pub mod Marked
+pub mod Ticked
 pub mod Cases

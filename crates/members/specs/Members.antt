@@ -1,4 +1,4 @@
--- Regions by their names, as a list of names is gone through.
+-- A region that a list names, by the names of the entries: its tag, and why it may not go (document 02, card 2).
 -- Assumes nothing.
 use mathlib.Core.Bool.{Bool, not}
 use mathlib.Core.List.{List}
@@ -8,11 +8,11 @@ use Rattle.lists.specs.Lists.{pick}
 use Rattle.regions.specs.Regions.{entryIn}
 
 -- by the names of the entries: the tag of the live region named n, 65 where there is none; and whether there is none
-unfoldable pub tagIn : List ℕ → ℕ → ℕ
-tagIn names n = entryIn names n + 1
+unfoldable pub tagBy : List ℕ → ℕ → ℕ
+tagBy names n = entryIn names n + 1
 
-unfoldable pub deadIn : List ℕ → ℕ → Bool
-deadIn names n = not (ltb (entryIn names n) 64)
+unfoldable pub deadBy : List ℕ → ℕ → Bool
+deadBy names n = not (ltb (entryIn names n) 64)
 
 -- why a region is not deleted with others, by its entry e and its name n: 2, 3, or 0 for neither (document 02, card 2)
 unfoldable pub nameRefusal : ℕ → ℕ → ℕ

@@ -180,11 +180,11 @@ subregions L r = countOf (λ g. eqb (g .parent) r) (L .regions)
 
 -- ---- Regions that are to go together, those that rs names (document 02, card 2)
 
--- every live region directly below one of them is one of them
+-- each live region right below one of them is one of them
 unfoldable pub closed : List Region → List ℕ → Bool
 closed gs rs = every (λ g. not (among (g .parent) rs) || among (g .name) rs) gs
 
--- the outside pointers of r but for the words of their own objects: slots of every frame, and words marked 1 of the other regions' objects
+-- the outside pointers of r that are no words of their objects: slots of every frame, and words marked 1 of objects of regions that rs does not name
 unfoldable pub outsideBut : Model → List ℕ → ℕ → ℕ
 outsideBut L rs r =
     sumOf (λ o. pick (among (o .home) rs) 0 (fromObject (livesIn L) (homeIn L) (L .kinds) r o)) (L .objects) + inFrames (homeIn L) r (L .frames)

@@ -129,8 +129,8 @@ wordsLeadingTo h S r o = pick (eqb (o .home) r) 0 (countOf (λ w. eqb (w .mark) 
 unfoldable pub outside : History → Store → ℕ → ℕ
 outside h S r = sumOf (slotsLeadingTo h S r) (upTo (length (h .frames))) + sumOf (wordsLeadingTo h S r) (h .objects)
 
--- of regions that are to go together, those that rs names (document 02, card 2): every live region directly below one of them is one of them;
--- and the outside pointers of r but for the words of their own objects
+-- of regions that are to go together, those that rs names (document 02, card 2): each live region right below one of them is one of them;
+-- and the outside pointers of r that are no words of their objects
 unfoldable pub closed : History → List ℕ → Bool
 closed h rs = every (λ g. not (among (g .parent) rs) || among (g .name) rs) (h .regions)
 

@@ -75,8 +75,8 @@ allData S s = onlyData (kinds S) (kindOf (S .heap) (slot S s))
 unfoldable pub outgoing : Store → List ℕ → List ℕ
 outgoing S ts = joined (λ t. outOf ((pages S) .owners) t (freeWordsOf (kinds S) (S .heap) (pages S) t)) ts
 
--- the stored count of the region at entry i, once those words are counted no more: what is left of it leads there from slots of counted frames and from other regions
--- (document 02, card 2, on 19)
+-- the stored count of the region at entry i, once those words are counted no more. On audited memory what is left are slots of counted frames, and words of regions that are
+-- none of them (document 02, card 2, on 19)
 unfoldable pub countBut : Store → List ℕ → ℕ → ℕ
 countBut S ts i = countAt (recount (regions S) [] (outgoing S ts)) i
 

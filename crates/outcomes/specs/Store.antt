@@ -60,16 +60,16 @@ slotsBeyond S t = let f = frames S in slotsBeyondIn (f .standing) (f .counted) (
 unfoldable pub outsideOf : Store → ℕ → ℕ
 outsideOf S i = (countAt (regions S) i + slotsBeyond S (i + 1)) % 4294967296
 
--- some slot of an uncounted frame leads into the region with tag t: the look of Delete
+-- some slot of an uncounted frame leads into a region whose tag passes: the look of Delete, and, for several regions at once, of document 02, card 2
+unfoldable pub ledAmongIn : ℕ → ℕ → List ℕ → List ℕ → List ℕ → (ℕ → Bool) → Bool
+ledAmongIn standing counted widths slots owners member = anyOf (λ i. anyOf member (targetsIn widths slots owners i)) (uncountedIn standing counted)
+
+-- the region with tag t; those with the tags ts
 unfoldable pub ledIn : ℕ → ℕ → List ℕ → List ℕ → List ℕ → ℕ → Bool
-ledIn standing counted widths slots owners t = anyOf (λ i. among t (targetsIn widths slots owners i)) (uncountedIn standing counted)
+ledIn standing counted widths slots owners t = ledAmongIn standing counted widths slots owners (λ u. eqb u t)
 
 unfoldable pub ledInto : Store → ℕ → Bool
 ledInto S t = let f = frames S in ledIn (f .standing) (f .counted) (f .widths) (f .slots) ((pages S) .owners) t
-
--- the same for several regions at once, those whose tags pass (document 02, card 2, on 19)
-unfoldable pub ledAmongIn : ℕ → ℕ → List ℕ → List ℕ → List ℕ → (ℕ → Bool) → Bool
-ledAmongIn standing counted widths slots owners member = anyOf (λ i. anyOf member (targetsIn widths slots owners i)) (uncountedIn standing counted)
 
 unfoldable pub ledAmong : Store → List ℕ → Bool
 ledAmong S ts = let f = frames S in ledAmongIn (f .standing) (f .counted) (f .widths) (f .slots) ((pages S) .owners) (λ t. among t ts)

@@ -10,7 +10,7 @@ use lib.Dec.{eqb}
 use lib.ListN.{length, getD}
 use borrow.Author.Tests.{eqb-true, eq-eqb}
 use Rattle.lists.specs.Lists.{bit, pick, sumOf, countOf, All, upTo}
-use Rattle.lists.specs.Laws.Tests.{by-test}
+use Rattle.lists.specs.Laws.Tests.{by-test, bit-pick}
 use Rattle.lists.specs.Laws.All.{all-map, all-both}
 use Rattle.lists.specs.Laws.Sums.{sum-same, sum-plus, sum-ones}
 use Rattle.lists.specs.Laws.UpTo.{length-upTo}
@@ -25,7 +25,6 @@ use Rattle.refinement.specs.Represents.{wordsIn, Tiles, RoomAgrees}
 use Rattle.refinement.specs.Laws.Tags.{tag-some}
 use Rattle.refinement.specs.Laws.Reads.{page-count}
 use Rattle.refinement.specs.Laws.Report.{names-live, ids-objects, held-pages}
-use Rattle.histories.specs.Laws.Tells.{pick-bit}
 use Rattle.audited.specs.Laws.AuditedObjects.{Agrees}
 
 pub tiles-sum : (L : Model) (sp : List ℕ) (a e : ℕ) (ps : List ℕ) → Tiles L sp a e ps → a + sumOf (λ q. length (wordsIn L q) + 1) ps ≡ e
@@ -53,7 +52,7 @@ module _ {L : Model} {sp : List ℕ} {ids : ℕ → List ℕ} (S : Store) (a : A
   pages-of : (g : Region) → (livesIn L (g .name) ≡ true) × (region (L .regions) (g .name) ≡ g) → g .pages ≡ sumOf (λ j. pick (holds (g .name) j) 1 0) (upTo ((pages S) .made))
   pages-of g h =
       ap (λ x. x .pages) (sym (h .1)) ∙ sym (a .onPages .held (g .name) (h .0)) ∙ pages-by (tagOf (regions S) (g .name))
-      ∙ ap (λ f. sumOf f (upTo ((pages S) .made))) (fun-ext (λ j. pick-bit (holds (g .name) j)))
+      ∙ ap (λ f. sumOf f (upTo ((pages S) .made))) (fun-ext (λ j. bit-pick (holds (g .name) j)))
 
   whole : L .free + sumOf (λ g. g .pages) (L .regions) ≡ (pages S) .made
   whole =

@@ -13,7 +13,7 @@ use Rattle.kinds.specs.Kinds.{kindCount, sizeOf, markAt, sizeIn}
 use Rattle.regions.specs.Regions.{nameAt, entryOf, tagOf, isLive, parentAt, subregionsOf, countAt, withoutRegions, withCounts, rolled, moved, entryIn, subregionsIn, recount}
 use Rattle.pages.specs.Pages.{wrongLength, pageCount, ownerAt, takenAt, ownerIn, ownerOf, freed, wrongLengthIn, ownersTo}
 use Rattle.objects.specs.Objects.{walk, headersTo, headersOn, freeWords, freeWordsOn, freeWordsOf, outOf}
-use Rattle.outcomes.specs.Store.{Store, ledInto, slotTargets, targetsIn, ledIn}
+use Rattle.outcomes.specs.Store.{Store, ledInto, slotTargets, targetsIn, ledIn, ledAmongIn}
 use Rattle.outcomes.specs.Outcome.{badLength, dead, checks, refusal, recounted, outgoing, newlyCounted, newlyIn, deleted, store, blank}
 use Rattle.outcomes.specs.Examples.{_but_, setStanding, setWidths, setSlots, setDeclared, setSizes, setMarks, setGiven, setNames, setParents, setLevels, setCounts, setNewest, setOldest, setOwners, setTaken, reads}
 
@@ -36,5 +36,5 @@ goes = refl
 
 -- nothing in the way; a slot of the top frame; a stored count; a subregion; a subregion and both kinds of pointer
 refusals : map (λ (p : Store × ℕ). refusal (p .0) (delete (p .1))) ((memory 0 0 0, 2) ∷ (memory 65 0 0, 2) ∷ (memory 0 1 0, 2) ∷ (memory 0 0 3, 2) ∷ (memory 65 1 3, 2) ∷ []) ≡ 0 ∷ 19 ∷ 19 ∷ 18 ∷ 18 ∷ []
-unfolding blank frameCount widthAt slotAt nameAt entryOf tagOf isLive parentAt subregionsOf countAt wrongLength ownerIn ownerOf ledInto badLength dead checks refusal entryIn subregionsIn wrongLengthIn ledIn targetsIn
+unfolding blank frameCount widthAt slotAt nameAt entryOf tagOf isLive parentAt subregionsOf countAt wrongLength ownerIn ownerOf ledInto badLength dead checks refusal entryIn subregionsIn wrongLengthIn ledIn ledAmongIn targetsIn
 refusals = refl

@@ -13,18 +13,18 @@ use Rattle.regions.specs.Regions.{closedIn}
 use Rattle.pages.specs.Pages.{wrongLengthIn}
 use Rattle.outcomes.specs.Laws.Steps.{reason-append}
 use Rattle.checks.specs.Checks.{firstRefusal}
-use Rattle.members.specs.Members.{deadIn}
+use Rattle.members.specs.Members.{deadBy}
 use Rattle.calls_delete_all.specs.DeleteAll.{listTests}
 use Rattle.calls_delete_all.proofs.list_refusal.Statement.{statement}
 use Rattle.calls_delete_all.proofs.list_refusal.Tie as tie
 
 -- the first test that holds decides
 in-order : (made words : ℕ) (list names parents : List ℕ) (member : ℕ → Bool)
-    → reason (listTests made words list names parents member) ≡ pick (wrongLengthIn made words) 21 (pick (wrongNames list) 22 (firstRefusal (reason (nameTests (deadIn names) list)) (pick (not (closedIn names parents member)) 18 0)))
+    → reason (listTests made words list names parents member) ≡ pick (wrongLengthIn made words) 21 (pick (wrongNames list) 22 (firstRefusal (reason (nameTests (deadBy names) list)) (pick (not (closedIn names parents member)) 18 0)))
 unfolding listTests
 in-order made words list names parents member =
-    let ts = nameTests (deadIn names) list in
-    rw (reason-append ts (not (closedIn names parents member) yields 18 ∷ []) (rw (append-nil ts) at (names-numbers (ltb 0) refl refl (deadIn names) list [] refl)))
+    let ts = nameTests (deadBy names) list in
+    rw (reason-append ts (not (closedIn names parents member) yields 18 ∷ []) (rw (append-nil ts) at (names-numbers (ltb 0) refl refl (deadBy names) list [] refl)))
 
 returns : tie.Need-returns
 returns c = (sym (in-order _ _ _ _ _ _ ∙ rw (← c .before .wrong-length .ensures, c .if1 .taken)), λ e. absurd (omega arith))

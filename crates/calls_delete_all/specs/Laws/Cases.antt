@@ -11,7 +11,7 @@ use Rattle.model.specs.Model.{Call, delete, deleteAll, gives, climb}
 use Rattle.model.specs.Calls.{wrongNames, nameTests}
 use Rattle.frames.specs.Frames.{frameCount, topFrame, widthAt, slotAt, raised}
 use Rattle.kinds.specs.Kinds.{kindCount, sizeOf, markAt, sizeIn}
-use Rattle.regions.specs.Regions.{nameAt, nameOf, nameIn, entryOf, tagOf, isLive, parentAt, levelAt, newestAt, oldestAt, subregionsOf, closedIn, countAt, withoutRegions, withCounts, rolled, moved, entryIn, subregionsIn, recount}
+use Rattle.regions.specs.Regions.{nameAt, nameOf, nameIn, entryOf, tagOf, isLive, parentAt, levelAt, newestAt, oldestAt, subregionsOf, closedIn, countAt, withoutRegions, withCounts, rolled, moved, entryIn, subregionsIn, recount, followsIn}
 use Rattle.pages.specs.Pages.{wrongLength, pageCount, isFree, ownerAt, takenAt, ownerIn, ownerOf, pagesIn, pagesOf, freed, wrongLengthIn, ownersTo}
 use Rattle.objects.specs.Objects.{walk, headersTo, headersOn, freeWords, freeWordsOn, freeWordsOf, outOf}
 use Rattle.outcomes.specs.Store.{Store, frames, regions, pages, ledInto, ledAmong, slotTargets, targetsIn, ledIn, ledAmongIn}
@@ -81,7 +81,7 @@ asked =
     ∷ []
 
 refusals : every (λ p. eqb (refusal (p .0) (p .1)) (p .2)) asked ≡ true
-unfolding blank frameCount topFrame widthAt slotAt raised kindCount sizeOf markAt nameAt entryOf tagOf isLive parentAt subregionsOf closedIn countAt withCounts rolled moved wrongLength pageCount ownerAt takenAt ownerIn ownerOf walk headersTo headersOn freeWords freeWordsOn outOf ledInto ledAmong badLength dead checks refusal countBut outgoing sizeIn entryIn subregionsIn recount wrongLengthIn ledIn ledAmongIn targetsIn freeWordsOf wrongNames nameTests
+unfolding blank frameCount topFrame widthAt slotAt raised kindCount sizeOf markAt nameAt entryOf tagOf isLive parentAt subregionsOf closedIn followsIn countAt withCounts rolled moved wrongLength pageCount ownerAt takenAt ownerIn ownerOf walk headersTo headersOn freeWords freeWordsOn outOf ledInto ledAmong badLength dead checks refusal countBut outgoing sizeIn entryIn subregionsIn recount wrongLengthIn ledIn ledAmongIn targetsIn freeWordsOf wrongNames nameTests
 refusals = refl
 
 -- memories, and what is read in each of them

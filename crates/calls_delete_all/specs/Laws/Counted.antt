@@ -3,7 +3,7 @@
 use mathlib.Core.Path.{_≡_, refl, sym, ap, _∙_, fun-ext}
 use mathlib.Core.Bool.{Bool, true, false, not, _&&_}
 use mathlib.Core.List.{List, [], map}
-use Prim.Native.Nat.{ℕ, suc, _<_, _≤_}
+use Prim.Native.Nat.{ℕ, _<_, _≤_}
 use lib.Dec.{eqb}
 use lib.ListN.{getD}
 use borrow.Author.Tests.{eqb-true}
@@ -14,9 +14,9 @@ use Rattle.lists.specs.Laws.Kept.{sum-members, any-members}
 use Rattle.kinds.specs.declared.Kinds.{Kinds}
 use Rattle.regions.specs.declared.Regions.{Regions}
 use Rattle.regions.specs.Regions.{entryOf, tagOf, withCounts, recount}
-use Rattle.regions.specs.Laws.Counts.{Counts, moved-same}
+use Rattle.regions.specs.Laws.Counts.{Counts}
 use Rattle.regions.specs.Laws.Steps.{enterings, leavings}
-use Rattle.regions.specs.Laws.Recount.{enter-leave-recount, leave-recount}
+use Rattle.regions.specs.Laws.Recount.{recount-same, enter-leave-recount, leave-recount}
 use Rattle.pages.specs.declared.Pages.{Pages}
 use Rattle.pages.specs.Pages.{pageCountIn, pageCount, ownerAt}
 use Rattle.objects.specs.Objects.{freeWordsOn, freeWordsOf, outOf}
@@ -59,11 +59,6 @@ module _ (k : Kinds) (heap : List ℕ) (p : Pages) (u : ℕ) where
       go : (b : Bool) (l : List ℕ) → times u (pick b l []) ≡ pick b (times u l) 0
       go true l = refl
       go false l = refl
-
--- lists that have each tag equally often move the counts alike
-recount-same : (g : Regions) (come a b : List ℕ) → ((u : ℕ) → times u a ≡ times u b) → recount g come a ≡ recount g come b
-unfolding recount
-recount-same g come a b h = ap (withCounts g) (moved-same (g .counts) come a come b (λ i l. refl) (λ i l. h (suc i)))
 
 module _ (S : Store) (ts : List ℕ) (once : (t : ℕ) → times t ts ≤ 1) (fits : Counts ((regions S) .counts)) where
   abbrev left : List ℕ

@@ -1,7 +1,7 @@
 -- The pages and the names of some regions given up: what Joint says by a test of tags is what the outcome says by the list.
 -- Assumes nothing.
-use mathlib.Core.Path.{_≡_, refl, sym, ap, _∙_, fun-ext}
-use mathlib.Core.Bool.{Bool, true, false, _&&_}
+use mathlib.Core.Path.{_≡_, sym, ap, _∙_, fun-ext}
+use mathlib.Core.Bool.{Bool, _&&_}
 use mathlib.Core.List.{List, map}
 use Prim.Native.Nat.{ℕ, suc, _<_, _≤_}
 use native.Mathlib.Omega.{arith}
@@ -10,7 +10,7 @@ use lib.ListN.{length, getD}
 use lib.Seq.{ext-getD}
 use borrow.Author.Tests.{ltb-false, ne-eqb}
 use Rattle.lists.specs.Lists.{bit, pick, sumOf, All, upTo, times, among}
-use Rattle.lists.specs.Laws.Tests.{by-test}
+use Rattle.lists.specs.Laws.Tests.{by-test, bit-pick}
 use Rattle.lists.specs.Laws.All.{all-map}
 use Rattle.lists.specs.Laws.Finds.{false-any}
 use Rattle.lists.specs.Laws.Kept.{sum-members}
@@ -24,10 +24,6 @@ use Rattle.joint_parts.specs.Joint.{zeroed, freedTo, heldBy, namesLeft}
 use Rattle.calls_delete_all.specs.Laws.Tags.{tag-entry, entries-below}
 
 -- a bit as a number that counts or does not
-bit-pick : (b : Bool) → bit b ≡ pick b 1 0
-bit-pick true = refl
-bit-pick false = refl
-
 -- how many pages there were
 pub held-are : (p : Pages) (ts : List ℕ) → ((t : ℕ) → times t ts ≤ 1) → heldBy (p .owners) (λ t. among t ts) (pageCountIn (p .made)) ≡ sumOf (pagesOf p) ts
 unfolding heldBy pagesOf pagesIn

@@ -23,7 +23,7 @@ use Rattle.outcomes.specs.Outcome.{badLength, dead, countBut, checks, refusal}
 use Rattle.outcomes.specs.Laws.Steps.{reason-append}
 use Rattle.checks.specs.Checks.{firstRefusal}
 use Rattle.checks.specs.Laws.Tests.{else-first, else-next}
-use Rattle.members.specs.Members.{deadIn}
+use Rattle.members.specs.Members.{deadBy}
 use Rattle.joint_parts.specs.Joint.{stillCounted, outFrom}
 use Rattle.calls_delete_all.specs.DeleteAll.{listTests}
 use Rattle.calls_delete_all.specs.Laws.Tags.{tags-once}
@@ -43,10 +43,10 @@ module _ (S : Store) (rs : List ℕ) where
 
   firsts-numbers : (member : ℕ → Bool) → every positive (firsts member) ≡ true
   unfolding listTests
-  firsts-numbers member = names-numbers (ltb 0) refl refl (deadIn ((regions S) .names)) rs _ refl
+  firsts-numbers member = names-numbers (ltb 0) refl refl (deadBy ((regions S) .names)) rs _ refl
 
-  names-live : All (λ r. (deadIn ((regions S) .names) r ≡ false) × (eqb r 1 ≡ false)) rs → Live
-  unfolding deadIn entryOf
+  names-live : All (λ r. (deadBy ((regions S) .names) r ≡ false) × (eqb r 1 ≡ false)) rs → Live
+  unfolding deadBy entryOf
   names-live = all-map (λ r h. ltb-true (entryOf (regions S) r) 64 (not-false (ltb (entryOf (regions S) r) 64) (h .0))) rs
 
   -- where they accept, those named live, and none is named twice
@@ -54,14 +54,14 @@ module _ (S : Store) (rs : List ℕ) where
   unfolding listTests wrongNames
   firsts-passed member e =
       let t = all-passed (firsts member) (firsts-numbers member) e in
-      (neither (eqb (length rs) 0 || ltb 16 (length rs)) (repeats rs) (t .1 .0) .1, names-live (names-passed (deadIn ((regions S) .names)) rs _ (t .1 .1) .0))
+      (neither (eqb (length rs) 0 || ltb 16 (length rs)) (repeats rs) (t .1 .0) .1, names-live (names-passed (deadBy ((regions S) .names)) rs _ (t .1 .1) .0))
 
   -- the members matter only where those named live
   firsts-same : (m n : ℕ → Bool) → (Live → m ≡ n) → reason (firsts m) ≡ reason (firsts n)
   unfolding listTests
   firsts-same m n h =
       let last : (ℕ → Bool) → List (Bool × ℕ) = λ m. not (closedIn ((regions S) .names) ((regions S) .parents) m) yields 18 ∷ [] in
-      let gone = deadIn ((regions S) .names) in
+      let gone = deadBy ((regions S) .names) in
       ap (λ n. pick (wrongLengthIn ((pages S) .made) (length (S .heap))) 21 (pick (wrongNames rs) 22 n))
       (names-agree gone gone (λ r. refl) rs (last m) (last n) (λ ns. ap (λ m. reason (last m)) (h (names-live ns))))
 
@@ -70,7 +70,7 @@ module _ (S : Store) (rs : List ℕ) where
   pointed = anyOf (λ r. not (eqb (countBut S tags (entryOf (regions S) r)) 0)) rs || ledAmong S tags
 
   tests-are : refusal S (deleteAll rs) ≡ firstRefusal (reason (firsts (λ t. among t tags))) (pick pointed 19 0)
-  unfolding refusal checks listTests badLength wrongLength dead isLive entryOf deadIn
+  unfolding refusal checks listTests badLength wrongLength dead isLive entryOf deadBy
   tests-are =
       let strays = not (closedIn ((regions S) .names) ((regions S) .parents) (λ t. among t tags)) in
       ap (λ l. reason (badLength S yields 21 ∷ wrongNames rs yields 22 ∷ l)) (sym (append-assoc (nameTests (dead S) rs) (strays yields 18 ∷ []) (pointed yields 19 ∷ [])))

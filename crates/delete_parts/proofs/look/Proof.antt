@@ -12,7 +12,7 @@ use Rattle.lists.specs.Laws.Finds.{any-map}
 use Rattle.lists.specs.Laws.UpTo.{any-one, none-any, from-next, from-end}
 use Rattle.frames.specs.Frames.{frameCountIn, widthIn, slotIn}
 use Rattle.pages.specs.Pages.{ownerIn}
-use Rattle.outcomes.specs.Store.{targetsIn, ledIn}
+use Rattle.outcomes.specs.Store.{targetsIn, ledIn, ledAmongIn}
 use Rattle.delete_parts.proofs.look.Statement.{statement}
 use Rattle.delete_parts.proofs.look.Tie as tie
 
@@ -44,7 +44,7 @@ abbrev μ-look : tie.MeasureT-look
 μ-look standing counted widths slots owners tag n found₀ i₀ found i = n - i
 
 look-holds : tie.Need-look-holds Inv-loop μ-loop Inv-look μ-look
-unfolding ledIn
+unfolding ledIn ledAmongIn
 look-holds c = (refl, search needs, refl)
 
 loop-holds : tie.Need-loop-holds Inv-loop μ-loop Inv-look μ-look

@@ -12,7 +12,7 @@ use borrow.Author.Tests.{eqb-true, eq-eqb, ne-eqb, not-false, not-true}
 use Rattle.lists.specs.Lists.{every, All}
 use Rattle.lists.specs.Laws.Tests.{both}
 use Rattle.lists.specs.Laws.All.{all-map}
-use Rattle.lists.specs.Laws.Finds.{any-false, false-any, every-true}
+use Rattle.lists.specs.Laws.Finds.{any-false, false-any, every-true, true-every}
 use Rattle.model.specs.Model.{Model, Answer, report, delete, deleteAll, livesIn, outside, outsideBut}
 use Rattle.model.specs.Calls.{wrongNames, dead, checks, refusal}
 use Rattle.model.specs.Valid.{Valid}
@@ -26,7 +26,7 @@ use Rattle.promises.specs.Laws.Refused.{refusals}
 use Rattle.refinement.specs.Represents.{Represents}
 use Rattle.refinement.specs.Laws.Report as report
 use Rattle.refinement.specs.Laws.Refusals.{refusals-agree}
-use Rattle.demands.specs.Demands.{named, Holds}
+use Rattle.demands.specs.Demands.{namesPass, Holds}
 use Rattle.histories.specs.Laws.Tells.{Tells, live-is, subregions-are, closed-is}
 use Rattle.histories.specs.Laws.Pointers.{slots-lead, words-lead, outside-is, outside-but-is, uncounted-is}
 use Rattle.histories.specs.Laws.TellsPages.{TellsPages, pages-held}
@@ -53,25 +53,29 @@ module _ {L : Model} {sp : List ℕ} {ids : ℕ → List ℕ} {S : Store} {h : H
         (λ z. rw (l, ne-eqb r 1 d, z .0, z .1)),
       )
 
-  -- a list past 22, 2 and 3
-  past : (l : List ℕ) → named h l ≡ true → (wrongNames l ≡ false) × All (λ r. (livesIn L r ≡ true) × (eqb r 1 ≡ false)) l
+  -- the names pass in the history where they do in the model
+  past : (l : List ℕ) → namesPass h l ≡ true → (wrongNames l ≡ false) × All (λ r. (dead L r ≡ false) × (eqb r 1 ≡ false)) l
   past l n =
       let p = both (not (wrongNames l)) (every (λ r. isLive h r && not (eqb r 1)) l) n in
-      (not-true (wrongNames l) (p .0), all-map (λ r e. let q = both (isLive h r) (not (eqb r 1)) e in (sym (live-is t r) ∙ q .0, not-true (eqb r 1) (q .1))) l (every-true (λ r. isLive h r && not (eqb r 1)) l (p .1)))
+      (not-true (wrongNames l) (p .0), all-map (λ r e. let q = both (isLive h r) (not (eqb r 1)) e in (ap not (sym (live-is t r) ∙ q .0), not-true (eqb r 1) (q .1))) l (every-true (λ r. isLive h r && not (eqb r 1)) l (p .1)))
 
-  together : (l : List ℕ) → named h l ≡ true → (a : Answer) (T : Store) → Outcome (deleteAll l) S a T
-      → (a .refusal ≡ 0) ↔ ((history.closed h l ≡ true) × All (λ r. history.outsideBut h S l r ≡ 0) l)
+  pass : (l : List ℕ) → wrongNames l ≡ false → All (λ r. (dead L r ≡ false) × (eqb r 1 ≡ false)) l → namesPass h l ≡ true
+  pass l w ns = rw (w, true-every (λ r. isLive h r && not (eqb r 1)) l (all-map (λ r e. rw (live-is t r, not-false (livesIn L r) (e .0), e .1)) l ns))
+
+  together : (l : List ℕ) (a : Answer) (T : Store) → Outcome (deleteAll l) S a T
+      → (a .refusal ≡ 0) ↔ ((namesPass h l ≡ true) × (history.closed h l ≡ true) × All (λ r. history.outsideBut h S l r ≡ 0) l)
   unfolding Refusals refusal checks
-  together l n a T o =
-      let p = past l n in
+  together l a T o =
       let e = refusals (deleteAll l) S a T o .0 ∙ refusals-agree v rep small (deleteAll l) in
       let none : (r : ℕ) → history.outsideBut h S l r ≡ outsideBut L l r = λ r. outside-but-is S t v (rep .onFrames) (rep .onObjects) r l in (
         (λ z.
-            let q = names-passed (dead L) l _ (passed L (deleteAll l) (sym e ∙ z) .1) in
-            (closed-is t l ∙ not-false _ (q .1 .0), all-map (λ r f. none r ∙ eqb-true _ 0 (not-false _ f)) l (any-false _ l (q .1 .1 .0)))),
+        let c = passed L (deleteAll l) (sym e ∙ z) in
+        let q = names-passed (dead L) l _ (c .1) in
+        (pass l (c .0) (q .0), closed-is t l ∙ not-false _ (q .1 .0), all-map (λ r f. none r ∙ eqb-true _ 0 (not-false _ f)) l (any-false _ l (q .1 .1 .0)))),
         (λ z.
-            e ∙ rw (p .0) (names-go (dead L) l _ (all-map (λ r k. (ap not (k .0), k .1)) l (p .1))
-            ∙ rw (sym (closed-is t l) ∙ z .0, false-any (λ r. not (eqb (outsideBut L l r) 0)) l (all-map (λ r f. ap not (eq-eqb _ 0 (sym (none r) ∙ f))) l (z .1))))),
+        let p = past l (z .0) in
+        e ∙ rw (p .0) (names-go (dead L) l _ (p .1)
+        ∙ rw (sym (closed-is t l) ∙ z .1, false-any (λ r. not (eqb (outsideBut L l r) 0)) l (all-map (λ r f. ap not (eq-eqb _ 0 (sym (none r) ∙ f))) l (z .2))))),
       )
 
   pub holds : Holds h S

@@ -20,14 +20,14 @@ use Rattle.model.specs.Model.{Model, delete, deleteAll, gives, refusedBy}
 use Rattle.model.specs.Calls.{wrongNames, nameTests}
 use Rattle.model.specs.Laws.Paged.{stored-bound}
 use Rattle.regions.specs.declared.Regions.{Regions}
-use Rattle.regions.specs.Regions.{nameAt, entryIn, entryOf, tagOf, isLive, parentAt, levelAt, subregionsIn, subregionsOf, closedIn, countAt}
+use Rattle.regions.specs.Regions.{nameAt, entryIn, entryOf, tagOf, isLive, parentAt, levelAt, subregionsIn, subregionsOf, followsIn, closedIn, countAt}
 use Rattle.regions.specs.Laws.Entries.{entry-named}
 use Rattle.regions.specs.Laws.Recount.{recount-exact}
 use Rattle.pages.specs.Pages.{pagesOf}
 use Rattle.objects.specs.Objects.{freeWordsOf, outOf}
 use Rattle.objects.specs.Laws.Leaving.{out-own}
 use Rattle.outcomes.specs.Store.{Store, kinds, regions, pages, ledInto, ledAmong}
-use Rattle.outcomes.specs.Shape.{Shaped}
+use Rattle.outcomes.specs.Shape.{Bits32}
 use Rattle.outcomes.specs.Outcome.{Outcome, Accepted, Answered, badLength, dead, outgoing, countBut, checks, refusal}
 use Rattle.outcomes.specs.Laws.Steps.{by-refusal}
 use Rattle.outcomes.specs.Laws.Bounded.{below-at}
@@ -60,7 +60,7 @@ module _ (names parents : List ℕ) where
   -- a list of one finds no subregion where there is none, or only the region itself
   closed-one : (i : ℕ) → i < 64 → getD names i 0 ≢ 0
       → let n = subregionsIn names parents (suc i) in closedIn names parents (λ t. among t (suc i ∷ [])) ≡ (eqb n 0 || (eqb (getD parents i 0) (suc i) && eqb n 1))
-  unfolding closedIn subregionsIn
+  unfolding closedIn followsIn subregionsIn
   closed-one i h u =
       ap (λ f. every f (upTo 64)) (fun-ext alike)
       ∙ every-but below 64 i h
@@ -156,6 +156,17 @@ module _ (S : Store) (r : ℕ) where
   unfolding refusal checks wrongNames nameTests tested
   joint-tested small = by-test (dead S r) (λ d. rw d) (λ d. rw (d, members d, counted small d, or-false (not (eqb (countAt g entry) 0)), look-one S tag))
 
+  -- where delete answers 18 it got as far as the subregions
+  got-there : refusal S (delete r) ≡ 18 → (badLength S ≡ false) × (dead S r ≡ false) × (eqb r 1 ≡ false)
+  unfolding tested
+  got-there e = go (badLength S) (dead S r) (eqb r 1) (sym e ∙ delete-tested)
+    where
+      go : (a b c : Bool) → _≡_ {A = ℕ} 18 (pick a 21 (pick b 2 (pick c 3 (pick (not (eqb (subregionsOf g tag) 0)) 18 (pick last 19 0))))) → (a ≡ false) × (b ≡ false) × (c ≡ false)
+      go true b c e = absurd (omega (arith, e))
+      go false true c e = absurd (omega (arith, e))
+      go false false true e = absurd (omega (arith, e))
+      go false false false e = (refl, refl, refl)
+
   refused-alike : Small → (OnlyItself S r → ⊥) → refusal S (deleteAll (r ∷ [])) ≡ refusal S (delete r)
   unfolding tested
   refused-alike small n = joint-tested small ∙ alike ∙ sym delete-tested
@@ -164,7 +175,8 @@ module _ (S : Store) (r : ℕ) where
       not-own b d o = by-test own
           (λ w.
           let q = both (eqb (parentAt g entry) tag) (eqb (subregionsOf g tag) 1) w in
-          absurd (n (b, d, eqb-false r 1 o, eqb-true (parentAt g entry) tag (q .0), eqb-true (subregionsOf g tag) 1 (q .1))))
+          let k = eqb-true (subregionsOf g tag) 1 (q .1) in
+          absurd (n (delete-tested ∙ rw (b, d, o, k), eqb-true (parentAt g entry) tag (q .0), k)))
           (λ w. w)
 
       alike : tested (not (eqb (subregionsOf g tag) 0 || own)) ≡ tested (not (eqb (subregionsOf g tag) 0))
@@ -187,21 +199,20 @@ module _ (S : Store) (r : ℕ) where
   apart : Small → SameAsDelete S r → OnlyItself S r → ⊥
   unfolding Refusals tested
   apart small s o =
-      let d : refusal S (delete r) ≡ 18 = delete-tested ∙ rw (o .0, o .1, ne-eqb r 1 (o .2), o .4) in
-      let j : refusal S (deleteAll (r ∷ [])) ≡ pick last 19 0 =
-      joint-tested small ∙ rw (o .0, o .1, ne-eqb r 1 (o .2), o .3, eq-eqb tag tag refl, o .4) in
-      not-18 last (refusals (deleteAll (r ∷ [])) S (refusedBy 18) S (s (refusedBy 18) S .1 (by-refusal (delete r) S (refusedBy 18) S 18 d (λ z. omega arith) refl refl)) .0 ∙ j)
+      let p = got-there (o .0) in
+      let j : refusal S (deleteAll (r ∷ [])) ≡ pick last 19 0 = joint-tested small ∙ rw (p .0, p .1, p .2, o .1, eq-eqb tag tag refl, o .2) in
+      not-18 last (refusals (deleteAll (r ∷ [])) S (refusedBy 18) S (s (refusedBy 18) S .1 (by-refusal (delete r) S (refusedBy 18) S 18 (o .0) (λ z. omega arith) refl refl)) .0 ∙ j)
     where
       not-18 : (b : Bool) → _≡_ {A = ℕ} 18 (pick b 19 0) → ⊥
       not-18 true e = omega arith
       not-18 false e = omega arith
 
-on-every-memory : (S : Store) → Shaped S → (r : ℕ) → SameAsDelete S r ↔ (OnlyItself S r → ⊥)
+on-every-memory : (S : Store) → Bits32 ((regions S) .counts) → (r : ℕ) → SameAsDelete S r ↔ (OnlyItself S r → ⊥)
 unfolding countAt
 on-every-memory S h r = (apart S r small, λ n. same-outcomes S r (refused-alike S r small n))
   where
     small : Small S r
-    small d = below-at 4294967296 ((regions S) .counts) (entryOf (regions S) r) (omega arith) (h .bounded .inRegions .counts)
+    small d = below-at 4294967296 ((regions S) .counts) (entryOf (regions S) r) (omega arith) h
 
 -- ---- a store that stands for a valid model
 
@@ -213,11 +224,11 @@ module _ {N : ℕ} {L : Model} {S : Store} (k : Good N L S) (r : ℕ) where
   -- no region is its own region above: its level would be one more than itself
   not-above : OnlyItself S r → ⊥
   unfolding tagOf
-  not-above o = go (entry-above S (k .sized .inRegions .names) (audited S (k .valid) (k .represents) (k .sized) .parents) (entry S r) (used S r (o .1)))
+  not-above o = go (entry-above S (k .sized .inRegions .names) (audited S (k .valid) (k .represents) (k .sized) .parents) (entry S r) (used S r (got-there S r (o .0) .1)))
     where
       go : Place S (entry S r) → ⊥
-      go (inl q) = omega (arith, q .0, o .3)
-      go (inr (p, b)) = let q : p ≡ entry S r = omega (arith, b .parent, o .3) in omega (arith, b .level, ap (levelAt (regions S)) q)
+      go (inl q) = omega (arith, q .0, o .1)
+      go (inr (p, b)) = let q : p ≡ entry S r = omega (arith, b .parent, o .1) in omega (arith, b .level, ap (levelAt (regions S)) q)
 
   same-told : SameAsDelete S r
   same-told = same-outcomes S r (refused-alike S r small-told not-above)

@@ -21,7 +21,7 @@ use Rattle.model.specs.Laws.Regions.{found-itself, live-zero}
 use Rattle.outcomes.specs.Store.{Store}
 use Rattle.outcomes.specs.History.{History, Object, Word, isLive, at, homeOf, pointersOf, slotsLeadingTo, wordsLeadingTo, outsideBut}
 use Rattle.outcomes.specs.History as history
-use Rattle.demands.specs.Demands.{named, Demand3}
+use Rattle.demands.specs.Demands.{namesPass, Demand3}
 use Rattle.demands.specs.Later.{freeWordsNull, AllTogether}
 use Rattle.histories.specs.Laws.Tells.{Tells, live-is, closed-is, each-met}
 use Rattle.demands.specs.Laws.Steps.{run-told}
@@ -42,7 +42,7 @@ module _ {L : Model} {sp : List ℕ} {h : History} (v : Valid L) (t : Tells L sp
   zero-out : among 0 l ≡ false
   zero-out = members 0 ∙ ap (λ b. b && not (eqb 0 1)) zero-dead
 
-  passes : 1 ≤ length l → length l ≤ 16 → named h l ≡ true
+  passes : 1 ≤ length l → length l ≤ 16 → namesPass h l ≡ true
   unfolding wrongNames
   passes a b = rw (
     ne-eqb (length l) 0 (λ z. omega arith),
@@ -111,4 +111,4 @@ unfolding AllTogether Demand3
 all-together S h s es T r f n l a b only x U o =
     let k = run-told (start-told S h s .2) r .1 in
     let v = k .good .valid in
-    demand3 S h s es T r .together l (passes v (k .tells) T l only a b) x U o .1 (all-closed v (k .tells) T l only, all-away v (k .tells) T l only f n)
+    demand3 S h s es T r .together l x U o .1 (passes v (k .tells) T l only a b, all-closed v (k .tells) T l only, all-away v (k .tells) T l only f n)

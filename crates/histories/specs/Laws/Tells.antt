@@ -9,7 +9,7 @@ use lib.Dec.{eqb, ltb}
 use lib.ListN.{length, length-map}
 use borrow.Author.Tests.{eq-eqb, ne-eqb, not-false}
 use Rattle.lists.specs.Lists.{bit, pick, every, findOr, sumOf, countOf, from, among}
-use Rattle.lists.specs.Laws.Tests.{by-test, bit-zero, or-right}
+use Rattle.lists.specs.Laws.Tests.{by-test, bit-zero, or-right, bit-pick}
 use Rattle.lists.specs.Laws.All.{all-map}
 use Rattle.lists.specs.Laws.Sums.{sum-zero, sum-nothing}
 use Rattle.lists.specs.Laws.Finds.{any-count, find-none, sum-one, true-every, every-count}
@@ -47,10 +47,6 @@ sum-at f n q a b =
     let here : pick (eqb q q) (f q) 0 ≡ f q = rw (eq-eqb q q refl) in
     let null : pick (eqb 0 q) (f 0) 0 ≡ 0 = rw (ne-eqb 0 q (λ e. omega arith)) in
     omega (arith, here, null, sum-single (λ x. pick (eqb x q) (f x) 0) (suc n) q (omega arith) (λ i d. rw (ne-eqb i q d)))
-
-pub pick-bit : (b : Bool) → bit b ≡ pick b 1 0
-pick-bit true = refl
-pick-bit false = refl
 
 module _ {L : Model} {sp : List ℕ} {h : History} (t : Tells L sp h) where
   pub frames-length : length (h .frames) ≡ length (L .frames)
@@ -108,7 +104,7 @@ module _ {L : Model} {sp : List ℕ} {h : History} (t : Tells L sp h) where
               (λ m. rw (m, ne-eqb x q (λ e. false≢true (sym m ∙ ap (λ x. livesIn L (homeIn L x)) e ∙ l))))
 
       one : (q : ℕ) → Alive L q → countOf (at (spot sp q)) (h .objects) ≡ 1
-      one q l = ap (λ k. sumOf k (h .objects)) (fun-ext (λ o. pick-bit (at (spot sp q) o))) ∙ only q l (λ o. 1)
+      one q l = ap (λ k. sumOf k (h .objects)) (fun-ext (λ o. bit-pick (at (spot sp q) o))) ∙ only q l (λ o. 1)
 
       pub leads-to : (q : ℕ) → Alive L q → leads h (spot sp q) ≡ true
       unfolding leads

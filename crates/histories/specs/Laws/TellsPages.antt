@@ -11,7 +11,7 @@ use lib.Dec.{eqb}
 use lib.ListN.{length, getD}
 use borrow.Author.Tests.{eq-eqb, ne-eqb, lt-ltb}
 use Rattle.lists.specs.Lists.{bit, pick, every, keep, from, upTo, times}
-use Rattle.lists.specs.Laws.Tests.{by-same, pick-same}
+use Rattle.lists.specs.Laws.Tests.{by-same, pick-same, bit-pick}
 use Rattle.lists.specs.Laws.Sums.{sum-nothing}
 use Rattle.lists.specs.Laws.Finds.{times-keep}
 use Rattle.lists.specs.Laws.UpTo.{sum-below, each-every}
@@ -27,7 +27,7 @@ use Rattle.outcomes.specs.History.{History, Holding, isLive, holders, pagesHeld
 use Rattle.refinement.specs.Represents.{RegionsAgree, PagesAgree, Owned}
 use Rattle.refinement.specs.Laws.Tags.{entry-name, live-named, tag-name, tag-some}
 use Rattle.refinement.specs.Laws.Reads.{page-count}
-use Rattle.histories.specs.Laws.Tells.{Tells, pick-bit, live-is}
+use Rattle.histories.specs.Laws.Tells.{Tells, live-is}
 
 -- who holds a page whose owner has tag t
 abbrev pub holding : List ℕ → ℕ → List ℕ
@@ -92,7 +92,7 @@ begin-pages {L} S ra pa = record {
   pages = page-count pa;
   free = λ j l.
       let b : j < pageCount (pages S) = omega (arith, page-count pa) in
-      times-keep j (isFree (pages S)) (upTo n) ∙ rw (lt-ltb j n b, times-upTo n j b) (sym (pick-bit (eqb (ownerAt (pages S) j) 0)));
+      times-keep j (isFree (pages S)) (upTo n) ∙ rw (lt-ltb j n b, times-upTo n j b) (sym (bit-pick (eqb (ownerAt (pages S) j) 0)));
   held = λ j l. held-kept j (λ q. not (eqb q 0)) (map (entered holder) (upTo n)) ∙ rw (held-one holder 0 n j (omega arith) (omega (arith, page-count pa))) (go j (pa .owned j l));
   none = λ j l.
       let b : n ≤ j = omega (arith, page-count pa) in (

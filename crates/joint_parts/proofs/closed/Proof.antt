@@ -9,7 +9,7 @@ use borrow.Author.Tests.{not-true, not-false}
 use Rattle.lists.specs.Laws.Every.{Passed, passed-none, passed-more, passed-not, passed-all}
 use Rattle.regions.specs.Regions.{closedIn}
 use Rattle.lists.specs.Ticks.{tickAt}
-use Rattle.joint_parts.specs.Joint.{stray}
+use Rattle.regions.specs.Regions.{followsIn}
 use Rattle.joint_parts.proofs.closed.Statement.{statement}
 use Rattle.joint_parts.proofs.closed.Tie as tie
 
@@ -24,7 +24,7 @@ abbrev μ-loop : tie.MeasureT-loop
 μ-loop names parents members i₀ i = 64 - i
 
 returns : tie.Need-returns Inv-loop μ-loop
-unfolding closedIn stray
+unfolding closedIn
 returns c =
     let l = c .before .before .before in
     let a = l .before .before .before .before .args in
@@ -32,7 +32,7 @@ returns c =
     passed-not f 64 (l .loop .i) (omega arith) (not-true (f (l .loop .i)) (rw (← c .before .stray .ensures) (c .if1 .taken)))
 
 loop-again : tie.Need-loop-again Inv-loop μ-loop
-unfolding stray
+unfolding followsIn
 loop-again c =
     let l = c .before .before .before in
     let a = l .before .before .before .before .args in

@@ -7,7 +7,7 @@ use lib.ListN.{getD}
 use borrow.Author.Needs.{needs}
 use borrow.Author.Tests.{eq-eqb, ne-eqb}
 use Rattle.lists.specs.Ticks.{tickAt}
-use Rattle.joint_parts.specs.Joint.{stray}
+use Rattle.regions.specs.Regions.{followsIn}
 use Rattle.joint_parts.proofs.stray.Statement.{statement}
 use Rattle.joint_parts.proofs.stray.Tie as tie
 
@@ -16,7 +16,7 @@ own : (c : tie.After-is-member) → let a = c .before .before .before .before .b
 own c = c .is-member .ensures ∙ ap (tickAt (c .before .before .before .before .before .before .args .members .now)) (omega arith)
 
 returns : tie.Need-returns
-unfolding stray
+unfolding followsIn
 returns c = rw (← c .before .name-at .ensures) (simp (eq-eqb _ _ (c .if1 .taken)))
 
 -- of a member, and of a live region that is none
@@ -30,13 +30,13 @@ other true = refl
 other false = refl
 
 returns-2 : tie.Need-returns-2
-unfolding stray
+unfolding followsIn
 returns-2 c =
     let a = c .before .before .before .before .before .before .before .args in
     rw (← own (c .before), c .if2 .taken) (member (eqb (getD (a .names .now) (a .e) 0) 0) (tickAt (a .members .now) (getD (a .parents .now) (a .e) 0)))
 
 returns-3 : tie.Need-returns-3
-unfolding stray
+unfolding followsIn
 returns-3 c =
     let m = c .before .before .before in
     let n = m .before .before in

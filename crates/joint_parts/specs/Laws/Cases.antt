@@ -9,7 +9,7 @@ use lib.ListN.{replicate}
 use Rattle.lists.specs.Lists.{bit, every, equal}
 use Rattle.kinds.specs.declared.Kinds.{Kinds}
 use Rattle.kinds.specs.Kinds.{kindsWith, sizeIn, sizeOf, markAt}
-use Rattle.regions.specs.Regions.{closedIn}
+use Rattle.regions.specs.Regions.{closedIn, followsIn}
 use Rattle.regions.specs.Laws.Steps.{stepped, steps, leavings}
 use Rattle.pages.specs.declared.Pages.{Pages}
 use Rattle.pages.specs.Pages.{pagesWith, ownerAt, takenAt, ownerIn}
@@ -63,5 +63,5 @@ cases =
     ∷ []
 
 pub computed : every (λ p. equal (equal eqb) (reads (p .0)) (p .1)) cases ≡ true
-unfolding sizeIn sizeOf markAt closedIn stepped steps ownerAt takenAt ownerIn walk headersTo freeWords freeWordsOn outOf targetsIn ledAmongIn tickAt stillCounted outFrom zeroed freedTo heldBy namesLeft
+unfolding sizeIn sizeOf markAt closedIn followsIn stepped steps ownerAt takenAt ownerIn walk headersTo freeWords freeWordsOn outOf targetsIn ledAmongIn tickAt stillCounted outFrom zeroed freedTo heldBy namesLeft
 computed = refl

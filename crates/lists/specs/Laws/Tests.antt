@@ -35,6 +35,10 @@ pub bit-zero : (b : Bool) → bit b ≡ 0 → b ≡ false
 bit-zero true e = absurd (omega arith)
 bit-zero false e = refl
 
+pub bit-pick : (b : Bool) → bit b ≡ pick b 1 0
+bit-pick true = refl
+bit-pick false = refl
+
 pub pick-same : {A : Type 0} (b : Bool) (x : A) → pick b x x ≡ x
 pick-same true x = refl
 pick-same false x = refl

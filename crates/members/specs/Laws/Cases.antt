@@ -10,7 +10,7 @@ use Rattle.lists.specs.Lists.{bit, every, equal, from}
 use Rattle.model.specs.Calls.{reason, wrongNames, nameTests}
 use Rattle.regions.specs.Regions.{entryIn}
 use Rattle.lists.specs.Ticks.{ticked}
-use Rattle.members.specs.Members.{tagIn, deadIn}
+use Rattle.members.specs.Members.{tagBy, deadBy}
 
 -- at the tags 1 to 3; 9 is no region's name
 abbrev names : List ℕ
@@ -44,15 +44,15 @@ firsts =
     ∷ (0 ∷ [], 2)
     ∷ []
 
-pub refused : every (λ p. eqb (reason (nameTests (deadIn names) (p .0))) (p .1)) firsts ≡ true
-unfolding nameTests deadIn entryIn
+pub refused : every (λ p. eqb (reason (nameTests (deadBy names) (p .0))) (p .1)) firsts ≡ true
+unfolding nameTests deadBy entryIn
 refused = refl
 
--- the tags of the names, in whatever order, have a mark, others none; a dead name leaves none
-pub marked : equal eqb (ticked (replicate 5 0) (map (tagIn names) (6 ∷ 5 ∷ []))) (0 ∷ 0 ∷ 1 ∷ 1 ∷ 0 ∷ []) ≡ true
-unfolding ticked tagIn entryIn
+-- the tags of the names, in whatever order, are ticked, others not; a dead name leaves none
+pub marked : equal eqb (ticked (replicate 5 0) (map (tagBy names) (6 ∷ 5 ∷ []))) (0 ∷ 0 ∷ 1 ∷ 1 ∷ 0 ∷ []) ≡ true
+unfolding ticked tagBy entryIn
 marked = refl
 
-pub unmarked : equal eqb (ticked (replicate 65 0) (map (tagIn names) (9 ∷ []))) (replicate 65 0) ≡ true
-unfolding ticked tagIn entryIn
+pub unmarked : equal eqb (ticked (replicate 65 0) (map (tagBy names) (9 ∷ []))) (replicate 65 0) ≡ true
+unfolding ticked tagBy entryIn
 unmarked = refl

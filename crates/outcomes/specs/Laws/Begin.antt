@@ -11,7 +11,7 @@ use lib.Dec.{eqb, ltb, leb, eqb·zero-suc, eqb·suc-suc}
 use lib.ListN.{length, getD, length-map, List·getD-eq-default}
 use borrow.Author.Tests.{eqb-true, eqb-false, eq-eqb, ne-eqb, ltb-true, ltb-false, lt-ltb, le-ltb, leb-true, not-true}
 use Rattle.lists.specs.Lists.{bit, pick, anyOf, every, keep, findOr, countOf, All, joined, upTo, times, among}
-use Rattle.lists.specs.Laws.Tests.{both, or-other, by-test, by-same, pick-same}
+use Rattle.lists.specs.Laws.Tests.{both, or-other, by-test, by-same, pick-same, bit-pick}
 use Rattle.lists.specs.Laws.All.{all-map, all-change}
 use Rattle.lists.specs.Laws.Sums.{sum-map, sum-keep, length-keep}
 use Rattle.lists.specs.Laws.Finds.{any-map, any-keep, find-keep, find-none, find-passes, all-found, all-keep, false-any, true-every, times-keep}
@@ -57,10 +57,6 @@ only-one f n i k e h l a b = go (by-same i k)
     go : (i ≡ k) ⊎ (i ≢ k) → i ≡ k
     go (inl q) = q
     go (inr q) = absurd (omega (arith, sum-two (λ j. bit (f j)) n i k h l q, ap bit a, ap bit b))
-
-pick-bit : (b : Bool) → pick b 1 0 ≡ bit b
-pick-bit true = refl
-pick-bit false = refl
 
 module _ (S : Store) where
   -- ---- objects
@@ -193,7 +189,7 @@ module _ (S : Store) where
     unfolding listedFree isFree
     free-times j h =
         times-keep j (isFree (pages S)) (upTo (pageCount (pages S)))
-        ∙ rw (lt-ltb j (pageCount (pages S)) h, sum-single (λ i. bit (eqb i j)) (pageCount (pages S)) j h (λ i d. rw (ne-eqb i j d)), eq-eqb j j refl) (pick-bit (eqb (ownerAt (pages S) j) 0))
+        ∙ rw (lt-ltb j (pageCount (pages S)) h, sum-single (λ i. bit (eqb i j)) (pageCount (pages S)) j h (λ i d. rw (ne-eqb i j d)), eq-eqb j j refl) (sym (bit-pick (eqb (ownerAt (pages S) j) 0)))
 
     held-times : (j : ℕ) → j < pageCount (pages S) → length (holders (begin S) j) ≡ bit (not (eqb (holderOf j) 0))
     unfolding begin listedHeld
@@ -203,7 +199,7 @@ module _ (S : Store) where
         ∙ sum-keep (λ t. bit (eqb (t .page) j)) (λ t. not (eqb (t .region) 0)) (map holding (upTo (pageCount (pages S))))
         ∙ sum-map (λ t. pick (not (eqb (t .region) 0)) (bit (eqb (t .page) j)) 0) holding (upTo (pageCount (pages S)))
         ∙ sum-single (λ i. pick (not (eqb (holderOf i) 0)) (bit (eqb i j)) 0) (pageCount (pages S)) j h (λ i d. rw (ne-eqb i j d) (pick-same {A = ℕ} (not (eqb (holderOf i) 0)) 0))
-        ∙ rw (eq-eqb j j refl) (pick-bit (not (eqb (holderOf j) 0)))
+        ∙ rw (eq-eqb j j refl) (sym (bit-pick (not (eqb (holderOf j) 0))))
 
     holders-live : (j : ℕ) → every (history.isLive (begin S)) (holders (begin S) j) ≡ true
     unfolding begin listedHeld

@@ -9,7 +9,7 @@ use native.Mathlib.Omega.{arith}
 use lib.Dec.{eqb, ltb}
 use lib.ListN.{take, drop}
 use borrow.Author.Tests.{eqb-true, eqb-false, eq-eqb, ne-eqb, lt-ltb}
-use Rattle.lists.specs.Lists.{bit, pick, anyOf, every, sumOf, All, upTo, times, among}
+use Rattle.lists.specs.Lists.{bit, pick, anyOf, sumOf, All, upTo, times, among}
 use Rattle.lists.specs.Laws.Tests.{by-test, eqb-sym}
 use Rattle.lists.specs.Laws.All.{all-map}
 use Rattle.lists.specs.Laws.Sums.{sum-same, sum-map, sum-joined, sum-split}
@@ -21,7 +21,7 @@ use Rattle.model.specs.Moves.{fromRegion}
 use Rattle.model.specs.Laws.Regions.{found-itself}
 use Rattle.model.specs.Laws.Counts.{outside-stored, words-parted, from}
 use Rattle.regions.specs.declared.Regions.{Regions}
-use Rattle.regions.specs.Regions.{nameAt, entryOf, tagOf, parentAt, closedIn}
+use Rattle.regions.specs.Regions.{nameAt, entryOf, tagOf, parentAt, followsIn, closedIn}
 use Rattle.objects.specs.Objects.{freeWordsOf, outOf}
 use Rattle.objects.specs.Laws.Leaving.{out-own}
 use Rattle.outcomes.specs.Store.{Store, frames, kinds, regions, pages, targetsIn, slotTargets, uncountedIn, slotsBeyondIn, slotsBeyond, ledIn, ledInto, ledAmongIn, ledAmong}
@@ -59,9 +59,9 @@ module _ {L : Model} {sp : List ℕ} {g : Regions} (v : Valid L) (a : RegionsAgr
   for-among zero n = zero-tag a rs ls ∙ sym (false-any (λ r. eqb r 0) rs (all-map (λ r l. ne-eqb r 0 (live-named a r l)) rs ls))
   for-among (suc q) n = let l : livesIn L (suc q) ≡ true = rw (ne-eqb (suc q) 0 (λ e. omega arith)) at n in tag-among a rs ls (suc q) l
 
-  -- every live subregion of a member is a member
+  -- no live region right below a member is left out
   pub closed-is : closedIn (g .names) (g .parents) (λ t. among t tags) ≡ closed (L .regions) rs
-  unfolding closedIn closed nameAt parentAt tagOf
+  unfolding closedIn followsIn closed nameAt parentAt tagOf
   closed-is =
       every-count test (upTo 64)
       ∙ ap (λ n. eqb n 0)
@@ -94,7 +94,7 @@ module _ {L : Model} {sp : List ℕ} {g : Regions} (v : Valid L) (a : RegionsAgr
 module _ {L : Model} {sp : List ℕ} {ids : ℕ → List ℕ} {S : Store} (v : Valid L) (h : Represents L sp ids S) where
   -- the look over the uncounted frames finds what the stored count lacks
   pub look-is : (r : ℕ) → livesIn L r ≡ true → ledInto S (tagOf (regions S) r) ≡ ltb 0 (inFrames (homeIn L) r (drop (L .counted) (L .frames)))
-  unfolding ledInto ledIn slotTargets slotsBeyond slotsBeyondIn
+  unfolding ledInto ledIn ledAmongIn slotTargets slotsBeyond slotsBeyondIn
   look-is r l =
       let t = tagOf (regions S) r in
       let fs = uncountedIn ((frames S) .standing) ((frames S) .counted) in

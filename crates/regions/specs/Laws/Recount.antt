@@ -10,7 +10,7 @@ use Rattle.lists.specs.Lists.{All, times}
 use Rattle.lists.specs.Laws.Kept.{all-places}
 use Rattle.regions.specs.declared.Regions.{Regions}
 use Rattle.regions.specs.Regions.{countAt, withCounts, rolled, moved, recount}
-use Rattle.regions.specs.Laws.Counts.{Counts, rolled-exact, moved-length, moved-at, moved-counts, moved-moved, moved-come-skip, moved-gone-skip}
+use Rattle.regions.specs.Laws.Counts.{Counts, rolled-exact, moved-length, moved-at, moved-counts, moved-moved, moved-same, moved-come-skip, moved-gone-skip}
 use Rattle.regions.specs.Laws.Steps.{steps, enterings, leavings, enterings-moved, leavings-moved}
 
 -- h is g but for the stored counts
@@ -55,6 +55,11 @@ module _ (g : Regions) (come gone : List ℕ) where
   pub recount-below : All (λ x. x < 4294967296) ((recount g come gone) .counts)
   unfolding recount withCounts
   recount-below = all-places (λ x. x < 4294967296) (moved (g .counts) come gone) 0 (λ i l. moved-counts (g .counts) come gone .1 i)
+
+-- lists that have each tag equally often move the counts alike
+pub recount-same : (g : Regions) (come a b : List ℕ) → ((u : ℕ) → times u a ≡ times u b) → recount g come a ≡ recount g come b
+unfolding recount
+recount-same g come a b h = ap (withCounts g) (moved-same (g .counts) come a come b (λ i l. refl) (λ i l. h (suc i)))
 
 -- the counts changed in place, one pointer after the other, are those of `recount`: pointers that leave, and others that enter after them
 module _ (g : Regions) (fits : Counts (g .counts)) where

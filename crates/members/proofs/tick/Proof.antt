@@ -6,16 +6,16 @@ use native.Mathlib.Omega.{arith}
 use lib.ListN.{length, getD, drop}
 use borrow.Author.Needs.{needs}
 use Rattle.lists.specs.Ticks.{ticked}
-use Rattle.members.specs.Members.{tagIn}
+use Rattle.members.specs.Members.{tagBy}
 use Rattle.lists.specs.Laws.Ticks.{ticked-length}
 use Rattle.members.proofs.Laws.{none-left, orElse, refused, refused-end, decided, undecided, marks-next}
-use Rattle.members.proofs.mark.Statement.{statement}
-use Rattle.members.proofs.mark.Tie as tie
+use Rattle.members.proofs.tick.Statement.{statement}
+use Rattle.members.proofs.tick.Tie as tie
 
 -- with the names left, the number and the marks are those of the whole list
 abbrev Inv-loop : tie.InvT-loop
 Inv-loop names list members₀ g₀ j₀ members g j =
-    (orElse g (refused names (drop j list)) ≡ refused names list) × (ticked members (map (tagIn names) (drop j list)) ≡ ticked members₀ (map (tagIn names) list))
+    (orElse g (refused names (drop j list)) ≡ refused names list) × (ticked members (map (tagBy names) (drop j list)) ≡ ticked members₀ (map (tagBy names) list))
 
 abbrev μ-loop : tie.MeasureT-loop
 μ-loop names list members₀ g₀ j₀ members g j = length list - j
@@ -61,8 +61,8 @@ returns c =
     let h : length (a .list .now) ≤ l .loop .j = omega arith in
     (refused-end (a .names .now) (a .list .now) (l .loop .j) (l .loop .g) h ∙ l .loop .inv .0, rw (none-left (a .list .now) (l .loop .j) h) at (l .loop .inv .1))
 
-pub mark-spec : {M : Type 1} → statement M
-mark-spec =
+pub tick-spec : {M : Type 1} → statement M
+tick-spec =
     tie.close
     (tie.spec
     Inv-loop
