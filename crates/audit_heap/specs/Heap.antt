@@ -2,10 +2,10 @@
 -- they are ticked once, in a list with a number for each word of the heap, and pointers are looked up there.
 -- Assumes nothing.
 use mathlib.Core.Bool.{Bool, not, _&&_, _||_}
-use mathlib.Core.List.{List, [], _∷_}
+use mathlib.Core.List.{List, []}
 use Prim.Native.Nat.{ℕ, _+_}
 use lib.Dec.{eqb}
-use lib.ListN.{getD, set}
+use lib.ListN.{getD}
 use Rattle.lists.specs.Lists.{pick, every, sumOf, joined, upTo}
 use Rattle.kinds.specs.Kinds.{kindsWith, sizeIn}
 use Rattle.regions.specs.Regions.{nameIn}
@@ -37,11 +37,3 @@ headersHeld declared sizes heap owners taken j = pick (eqb (getD owners j 0) 0) 
 
 unfoldable pub allHeaders : ℕ → List ℕ → List ℕ → ℕ → List ℕ → List ℕ → List ℕ
 allHeaders declared sizes heap made owners taken = joined (headersHeld declared sizes heap owners taken) (upTo (pageCountIn made))
-
--- the list with 1 at each of these places; and whether place q has it
-unfoldable pub ticked : List ℕ → List ℕ → List ℕ
-ticked l [] = l
-ticked l (q ∷ qs) = ticked (set l q 1) qs
-
-unfoldable pub headAt : List ℕ → ℕ → Bool
-headAt heads q = eqb (getD heads q 0) 1

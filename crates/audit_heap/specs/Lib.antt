@@ -1,2 +1,1 @@
 pub mod Heap
-pub mod Laws

@@ -1,7 +1,8 @@
 // The audit's tests of pages, and the headers of objects: they are ticked once, in an array with a byte for each word of the heap.
 ghost use mathlib.Core.Path.{_≡_};
 ghost use Prim.Native.Nat.{_≤_};
-ghost use Rattle.audit_heap.specs.Heap.{headersIn, filledTo, pageFits, pagesFit, headersHeld, allHeaders, ticked, headAt};
+ghost use Rattle.lists.specs.Ticks.{ticked, tickAt};
+ghost use Rattle.audit_heap.specs.Heap.{headersIn, filledTo, pageFits, pagesFit, headersHeld, allHeaders};
 
 // How many words the objects met on page j take, as far as n words of it; no word past those is read.
 fn filled_to(declared: u32, sizes: &[u8], heap: &[u32], j: u32, n: u32) -> usize
@@ -124,7 +125,7 @@ pub fn tick_headers<'a>(
 
 // Whether a header stands at place q.
 pub fn stands_at(heads: &[u8], q: u32) -> bool
-    ensures { λ r. ⌜ r ≡ headAt (now (heads .entry)) q ⌝ }
+    ensures { λ r. ⌜ r ≡ tickAt (now (heads .entry)) q ⌝ }
 {
     cells::byte(heads, q as usize) == 1
 }

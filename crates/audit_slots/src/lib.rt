@@ -1,6 +1,6 @@
 // The audit's tests of newest pages and oldest objects, and of slots. Pointers are looked up among the headers that audit_heap ticked.
 ghost use mathlib.Core.Path.{_≡_};
-ghost use Rattle.audit_heap.specs.Heap.{headAt};
+ghost use Rattle.lists.specs.Ticks.{tickAt};
 ghost use Rattle.audit_slots.specs.Leads.{newestFits, oldestFits, entryOwns, entriesOwn, known, frameLeads, framesLead};
 
 fn newest_fits(newest: &[u16], made: u32, owners: &[u8], i: u32) -> bool
@@ -17,7 +17,7 @@ fn newest_fits(newest: &[u16], made: u32, owners: &[u8], i: u32) -> bool
 }
 
 fn oldest_fits(heads: &[u8], oldest: &[u32], owners: &[u8], i: u32) -> bool
-    ensures { λ r. ⌜ r ≡ oldestFits (headAt (now (heads .entry))) (now (oldest .entry)) (now (owners .entry)) i ⌝ }
+    ensures { λ r. ⌜ r ≡ oldestFits (tickAt (now (heads .entry))) (now (oldest .entry)) (now (owners .entry)) i ⌝ }
 {
     let v = regions::oldest_at(oldest, i);
     if v == 0 {
@@ -38,7 +38,7 @@ fn entry_owns<'a>(
     owners: &[u8],
     i: u32,
 ) -> bool
-    ensures { λ r. ⌜ r ≡ entryOwns (headAt (now (heads .entry))) (now (names .entry)) (now (newest .entry)) (now (oldest .entry)) made (now (owners .entry)) i ⌝ }
+    ensures { λ r. ⌜ r ≡ entryOwns (tickAt (now (heads .entry))) (now (names .entry)) (now (newest .entry)) (now (oldest .entry)) made (now (owners .entry)) i ⌝ }
 {
     if regions::name_at(names, i) == 0 {
         return true;
@@ -58,7 +58,7 @@ pub fn entries_own<'a>(
     made: u32,
     owners: &[u8],
 ) -> bool
-    ensures { λ r. ⌜ r ≡ entriesOwn (headAt (now (heads .entry))) (now (names .entry)) (now (newest .entry)) (now (oldest .entry)) made (now (owners .entry)) ⌝ }
+    ensures { λ r. ⌜ r ≡ entriesOwn (tickAt (now (heads .entry))) (now (names .entry)) (now (newest .entry)) (now (oldest .entry)) made (now (owners .entry)) ⌝ }
 {
     let mut i: u32 = 0;
     while i < 64 {
@@ -71,7 +71,7 @@ pub fn entries_own<'a>(
 }
 
 fn known(heads: &[u8], v: u32) -> bool
-    ensures { λ r. ⌜ r ≡ known (headAt (now (heads .entry))) v ⌝ }
+    ensures { λ r. ⌜ r ≡ known (tickAt (now (heads .entry))) v ⌝ }
 {
     if v == 0 {
         return true;
@@ -80,7 +80,7 @@ fn known(heads: &[u8], v: u32) -> bool
 }
 
 fn frame_leads<'a>(heads: &[u8], widths: &'a [u8], slots: &'a [u32], i: u32) -> bool
-    ensures { λ r. ⌜ r ≡ frameLeads (headAt (now (heads .entry))) (now (widths .entry)) (now (slots .entry)) i ⌝ }
+    ensures { λ r. ⌜ r ≡ frameLeads (tickAt (now (heads .entry))) (now (widths .entry)) (now (slots .entry)) i ⌝ }
 {
     let n = frames::width_at(widths, i);
     let mut s: u32 = 0;
@@ -95,7 +95,7 @@ fn frame_leads<'a>(heads: &[u8], widths: &'a [u8], slots: &'a [u32], i: u32) -> 
 
 // Whether every slot is null or leads to an object.
 pub fn frames_lead<'a>(heads: &[u8], standing: u32, widths: &'a [u8], slots: &'a [u32]) -> bool
-    ensures { λ r. ⌜ r ≡ framesLead (headAt (now (heads .entry))) standing (now (widths .entry)) (now (slots .entry)) ⌝ }
+    ensures { λ r. ⌜ r ≡ framesLead (tickAt (now (heads .entry))) standing (now (widths .entry)) (now (slots .entry)) ⌝ }
 {
     let n = frames::frame_count(standing);
     let mut i: u32 = 0;

@@ -1,8 +1,8 @@
 // The audit's tests of pointer words. Pointers are looked up among the headers that audit_heap ticked.
 ghost use mathlib.Core.Path.{_≡_};
 ghost use Prim.Native.Nat.{_≤_};
+ghost use Rattle.lists.specs.Ticks.{tickAt};
 ghost use Rattle.objects.specs.Parts.{wordIn};
-ghost use Rattle.audit_heap.specs.Heap.{headAt};
 ghost use Rattle.audit_words.specs.Words.{wordHolds, wordsHold, objectsHold, pageHolds, pagesHold};
 
 // Whether word w of an object, with mark m, is data, null, or leads to an object that the mark allows. Data is not read.
@@ -17,7 +17,7 @@ fn word_holds<'a>(
     object: &[u32],
     w: u32,
 ) -> bool
-    ensures { λ r. ⌜ r ≡ wordHolds (headAt (now (heads .entry))) (now (names .entry)) (now (parents .entry)) (now (levels .entry)) (now (owners .entry)) own m (wordIn (now (object .entry)) w) ⌝ }
+    ensures { λ r. ⌜ r ≡ wordHolds (tickAt (now (heads .entry))) (now (names .entry)) (now (parents .entry)) (now (levels .entry)) (now (owners .entry)) own m (wordIn (now (object .entry)) w) ⌝ }
 {
     if m == 0 {
         return true;
@@ -44,7 +44,7 @@ fn words_hold<'a>(
     owners: &[u8],
     own: u32,
 ) -> bool
-    ensures { λ r. ⌜ r ≡ wordsHold (headAt (now (heads .entry))) (now (names .entry)) (now (parents .entry)) (now (levels .entry)) (now (owners .entry)) (now (marks .entry)) (now (object .entry)) n own ⌝ }
+    ensures { λ r. ⌜ r ≡ wordsHold (tickAt (now (heads .entry))) (now (names .entry)) (now (parents .entry)) (now (levels .entry)) (now (owners .entry)) (now (marks .entry)) (now (object .entry)) n own ⌝ }
 {
     let mut w: u32 = 0;
     while w < n {
@@ -73,7 +73,7 @@ fn objects_hold<'a, 'b>(
     n: u32,
 ) -> bool
     requires { ⌜ n ≤ 64 ⌝ }
-    ensures { λ r. ⌜ r ≡ objectsHold (headAt (now (heads .entry))) (now (names .entry)) (now (parents .entry)) (now (levels .entry)) (now (owners .entry)) declared (now (sizes .entry)) (now (marks .entry)) (now (heap .entry)) own j n ⌝ }
+    ensures { λ r. ⌜ r ≡ objectsHold (tickAt (now (heads .entry))) (now (names .entry)) (now (parents .entry)) (now (levels .entry)) (now (owners .entry)) declared (now (sizes .entry)) (now (marks .entry)) (now (heap .entry)) own j n ⌝ }
 {
     let mut at = 64 * (j as usize);
     let end = at + (n as usize);
@@ -104,7 +104,7 @@ fn page_holds<'a, 'b, 'c>(
     taken: &'c [u8],
     j: u32,
 ) -> bool
-    ensures { λ r. ⌜ r ≡ pageHolds (headAt (now (heads .entry))) (now (names .entry)) (now (parents .entry)) (now (levels .entry)) (now (owners .entry)) declared (now (sizes .entry)) (now (marks .entry)) (now (heap .entry)) (now (taken .entry)) j ⌝ }
+    ensures { λ r. ⌜ r ≡ pageHolds (tickAt (now (heads .entry))) (now (names .entry)) (now (parents .entry)) (now (levels .entry)) (now (owners .entry)) declared (now (sizes .entry)) (now (marks .entry)) (now (heap .entry)) (now (taken .entry)) j ⌝ }
 {
     let t = pages::owner_at(owners, j);
     if t == 0 {
@@ -141,7 +141,7 @@ pub fn pages_hold<'a, 'b, 'c>(
     owners: &'c [u8],
     taken: &'c [u8],
 ) -> bool
-    ensures { λ r. ⌜ r ≡ pagesHold (headAt (now (heads .entry))) (now (names .entry)) (now (parents .entry)) (now (levels .entry)) (now (owners .entry)) declared (now (sizes .entry)) (now (marks .entry)) (now (heap .entry)) made (now (taken .entry)) ⌝ }
+    ensures { λ r. ⌜ r ≡ pagesHold (tickAt (now (heads .entry))) (now (names .entry)) (now (parents .entry)) (now (levels .entry)) (now (owners .entry)) declared (now (sizes .entry)) (now (marks .entry)) (now (heap .entry)) made (now (taken .entry)) ⌝ }
 {
     let n = pages::page_count(made);
     let mut j: u32 = 0;

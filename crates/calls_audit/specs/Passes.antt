@@ -4,10 +4,11 @@ use mathlib.Core.Bool.{Bool, _&&_}
 use mathlib.Core.List.{List}
 use Prim.Native.Nat.{ℕ}
 use lib.ListN.{length, replicate}
+use Rattle.lists.specs.Ticks.{ticked, tickAt}
 use Rattle.kinds.specs.Kinds.{kindsWith}
 use Rattle.state.specs.declared.State.{State}
 use Rattle.audit_state.specs.Fits.{stateFitsIn}
-use Rattle.audit_heap.specs.Heap.{pagesFit, allHeaders, ticked, headAt}
+use Rattle.audit_heap.specs.Heap.{pagesFit, allHeaders}
 use Rattle.audit_slots.specs.Leads.{entriesOwn, framesLead}
 use Rattle.audit_words.specs.Words.{pagesHold}
 use Rattle.audit_counts.specs.Counts.{countsFit}
@@ -15,7 +16,7 @@ use Rattle.audit_counts.specs.Counts.{countsFit}
 -- those of the heap; headers are ticked in the list `heads`
 unfoldable pub heapFits : List ℕ → ℕ → List ℕ → List ℕ → List ℕ → List ℕ → List ℕ → List ℕ → List ℕ → List ℕ → ℕ → List ℕ → List ℕ → ℕ → List ℕ → List ℕ → Bool
 heapFits heads declared sizes marks heap names parents levels newest oldest made owners taken standing widths slots =
-    let stands = headAt (ticked heads (allHeaders declared sizes heap made owners taken)) in
+    let stands = tickAt (ticked heads (allHeaders declared sizes heap made owners taken)) in
     pagesFit declared sizes heap names made owners taken
     && entriesOwn stands names newest oldest made owners
     && framesLead stands standing widths slots

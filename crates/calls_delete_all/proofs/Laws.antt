@@ -1,6 +1,6 @@
 -- The tests and the state left are those of the call's outcome.
 -- Assumes nothing.
-use mathlib.Core.Path.{_≡_, sym, ap, _∙_}
+use mathlib.Core.Path.{_≡_, ap, _∙_}
 use mathlib.Core.Logic.{_≢_}
 use mathlib.Core.Bool.{Bool, true, false, _||_}
 use mathlib.Core.List.{List, [], _∷_, map}
@@ -13,14 +13,15 @@ use Rattle.model.specs.Model.{Answer, deleteAll, gives, refusedBy}
 use Rattle.model.specs.Calls.{reason}
 use Rattle.frames.specs.Frames.{raised}
 use Rattle.regions.specs.declared.Regions.{Regions}
-use Rattle.regions.specs.Regions.{entryOf, tagOf, clearedAt, withoutRegions, withCounts, recount}
+use Rattle.regions.specs.Regions.{entryOf, tagOf, withoutRegions, withCounts}
 use Rattle.regions.specs.Laws.Counts.{Counts}
 use Rattle.regions.specs.Laws.Steps.{enterings, leavings}
 use Rattle.pages.specs.Pages.{pageCountIn, pageCount, pagesWith, pagesOf, freed}
 use Rattle.outcomes.specs.Store.{Store, frames, kinds, regions, pages, ledAmongIn}
 use Rattle.outcomes.specs.Outcome.{Outcome, Accepted, refusal, recounted, newlyIn, newlyCounted, deleted}
 use Rattle.outcomes.specs.Laws.Steps.{by-refusal, by-effect, by-parts}
-use Rattle.members.specs.Members.{isMember, marking, tagIn}
+use Rattle.lists.specs.Ticks.{tickAt, ticked}
+use Rattle.members.specs.Members.{tagIn}
 use Rattle.members.specs.Laws.Marked.{marked-among}
 use Rattle.joint_parts.specs.Joint.{stillCounted, outFrom, freedTo, heldBy, namesLeft}
 use Rattle.calls_delete_all.specs.DeleteAll.{listTests}
@@ -36,35 +37,35 @@ regionsWith g names counts = record { given = g .given; names = names; parents =
 module _ (S : Store) (rs : List ℕ) where
   -- the marks of those named
   abbrev marks : List ℕ
-  marks = marking (replicate 65 0) (map (tagIn ((regions S) .names)) rs)
+  marks = ticked (replicate 65 0) (map (tagIn ((regions S) .names)) rs)
 
   -- g is what a function gave for the first tests
-  module _ (g : ℕ) (asked : g ≡ reason (listTests ((pages S) .made) (length (S .heap)) rs ((regions S) .names) ((regions S) .parents) (isMember marks))) where
-    named : Live S rs → isMember marks ≡ (λ t. among t (tags S rs))
+  module _ (g : ℕ) (asked : g ≡ reason (listTests ((pages S) .made) (length (S .heap)) rs ((regions S) .names) ((regions S) .parents) (tickAt marks))) where
+    named : Live S rs → tickAt marks ≡ (λ t. among t (tags S rs))
     unfolding tagIn tagOf entryOf
     named live = marked-among (tags S rs) (tags-most (regions S) rs live)
 
     pub delete-all-refused : (a : Answer) (T : Store) → g ≢ 0 → a ≡ refusedBy g → T ≡ S → Outcome (deleteAll rs) S a T
-    delete-all-refused a T z p q = by-refusal (deleteAll rs) S a T g (refused-first S rs (isMember marks) named g asked z) z p q
+    delete-all-refused a T z p q = by-refusal (deleteAll rs) S a T g (refused-first S rs (tickAt marks) named g asked z) z p q
 
     -- and where these accept, ms the marks, cs the counts without the members' words, b whether a pointer is left
     module _ (z : g ≡ 0) (ms cs : List ℕ) (b : Bool) (marked : g ≡ 0 → ms ≡ marks) (fits : Counts ((regions S) .counts))
-        (scanned : cs ≡ leavings ((regions S) .counts) (outFrom (kinds S) (S .heap) (pages S) (isMember ms) (pageCountIn ((pages S) .made))))
-        (looked : let f = frames S in b ≡ (stillCounted cs (isMember ms) || ledAmongIn (f .standing) (f .counted) (f .widths) (f .slots) ((pages S) .owners) (isMember ms))) where
+        (scanned : cs ≡ leavings ((regions S) .counts) (outFrom (kinds S) (S .heap) (pages S) (tickAt ms) (pageCountIn ((pages S) .made))))
+        (looked : let f = frames S in b ≡ (stillCounted cs (tickAt ms) || ledAmongIn (f .standing) (f .counted) (f .widths) (f .slots) ((pages S) .owners) (tickAt ms))) where
       live : Live S rs
-      live = passed-live S rs (isMember marks) named g asked z
+      live = passed-live S rs (tickAt marks) named g asked z
 
       once : (t : ℕ) → times t (tags S rs) ≤ 1
-      once = passed-once S rs (isMember marks) named g asked z
+      once = passed-once S rs (tickAt marks) named g asked z
 
-      members : isMember ms ≡ (λ t. among t (tags S rs))
-      members = ap isMember (marked z) ∙ named live
+      members : tickAt ms ≡ (λ t. among t (tags S rs))
+      members = ap tickAt (marked z) ∙ named live
 
       left : b ≡ pointed S rs
       left = looked ∙ rw (scanned, members) (pointed-are S rs live once fits)
 
       second : refusal S (deleteAll rs) ≡ pick b 19 0
-      second = passed-first S rs (isMember marks) named g asked z ∙ rw left
+      second = passed-first S rs (tickAt marks) named g asked z ∙ rw left
 
       pub delete-all-pointed : (a : Answer) (T : Store) → b ≡ true → a ≡ refusedBy 19 → T ≡ S → Outcome (deleteAll rs) S a T
       delete-all-pointed a T e p q = by-refusal (deleteAll rs) S a T 19 (second ∙ ap (λ b. pick b 19 0) e) (λ n. omega arith) p q
@@ -72,13 +73,14 @@ module _ (S : Store) (rs : List ℕ) where
       -- and ds, k, os and ns, where none is: the counts left, the number of pages, the owners and the names left
       pub delete-all-effect : (a : Answer) (T : Store) (k : ℕ) (ds os ns : List ℕ) → b ≡ false → a ≡ gives (k ∷ []) → length ((pages S) .owners) ≡ 256
           → let f = frames S in ds ≡ enterings cs (newlyIn (f .standing) (f .counted) (f .widths) (f .slots) ((pages S) .owners))
-          → k ≡ heldBy ((pages S) .owners) (isMember ms) (pageCountIn ((pages S) .made))
-          → os ≡ freedTo ((pages S) .owners) (isMember ms) (pageCountIn ((pages S) .made))
-          → ns ≡ namesLeft ((regions S) .names) (isMember ms) 64
+          → k ≡ heldBy ((pages S) .owners) (tickAt ms) (pageCountIn ((pages S) .made))
+          → os ≡ freedTo ((pages S) .owners) (tickAt ms) (pageCountIn ((pages S) .made))
+          → ns ≡ namesLeft ((regions S) .names) (tickAt ms) 64
           → frames T ≡ raised f → kinds T ≡ kinds S → regions T ≡ regionsWith (regions S) ns ds → pages T ≡ pagesWith ((pages S) .made) os ((pages S) .taken) → T .heap ≡ S .heap
           → Outcome (deleteAll rs) S a T
       unfolding Accepted deleted recounted newlyCounted freed pageCount withoutRegions withCounts
       delete-all-effect a T k ds os ns e p l ed ek eo en ef et er ep eh =
-          by-effect (deleteAll rs) S a T (second ∙ ap (λ b. pick b 19 0) e)
-          (p ∙ rw (ek, members, held-are (pages S) (tags S rs) once, sum-map (pagesOf (pages S)) (tagOf (regions S)) rs),
-          by-parts T (deleted S rs) ef et (er ∙ rw (ed, en, scanned, members, names-are (regions S) rs live) (ap (λ h. withoutRegions h (map (entryOf (regions S)) rs)) (entered-are S (tags S rs) once fits (newlyCounted S)))) (ep ∙ rw (eo, members, freed-are ((pages S) .owners) (tags S rs) _ l)) eh)
+          by-effect (deleteAll rs) S a T (second ∙ ap (λ b. pick b 19 0) e) (
+            p ∙ rw (ek, members, held-are (pages S) (tags S rs) once, sum-map (pagesOf (pages S)) (tagOf (regions S)) rs),
+            by-parts T (deleted S rs) ef et (er ∙ rw (ed, en, scanned, members, names-are (regions S) rs live) (ap (λ h. withoutRegions h (map (entryOf (regions S)) rs)) (entered-are S (tags S rs) once fits (newlyCounted S)))) (ep ∙ rw (eo, members, freed-are ((pages S) .owners) (tags S rs) _ l)) eh,
+          )

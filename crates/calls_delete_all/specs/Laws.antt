@@ -1,5 +1,4 @@
--- Laws, proved: nothing here has to be believed.
-pub mod General
+-- The parts of the call and its outcome say the same.
 pub mod Tags
 pub mod Gone
 pub mod Counted

@@ -8,7 +8,8 @@ ghost use Rattle.model.specs.Model.{deleteAll};
 ghost use Rattle.model.specs.Calls.{reason};
 ghost use Rattle.outcomes.specs.Store.{ledAmongIn};
 ghost use Rattle.outcomes.specs.Outcome.{Outcome, answerOf, store};
-ghost use Rattle.members.specs.Members.{isMember, marking, tagIn};
+ghost use Rattle.lists.specs.Ticks.{tickAt, ticked};
+ghost use Rattle.members.specs.Members.{tagIn};
 ghost use Rattle.joint_parts.specs.Joint.{stillCounted};
 ghost use Rattle.calls_delete_all.specs.DeleteAll.{listTests};
 
@@ -21,7 +22,7 @@ fn list_refusal<'a>(
     parents: &'a [u8],
     members: &mut [u8],
 ) -> u32
-    ensures { λ r. ⌜ (r ≡ reason (listTests made words (now (list .entry)) (now (names .entry)) (now (parents .entry)) (isMember (marking (now (members .entry)) (map (tagIn (now (names .entry))) (now (list .entry))))))) × (r ≡ 0 → now (members .exit) ≡ marking (now (members .entry)) (map (tagIn (now (names .entry))) (now (list .entry)))) ⌝ }
+    ensures { λ r. ⌜ (r ≡ reason (listTests made words (now (list .entry)) (now (names .entry)) (now (parents .entry)) (tickAt (ticked (now (members .entry)) (map (tagIn (now (names .entry))) (now (list .entry))))))) × (r ≡ 0 → now (members .exit) ≡ ticked (now (members .entry)) (map (tagIn (now (names .entry))) (now (list .entry)))) ⌝ }
 {
     if pages::wrong_length(made, words) {
         return 21;
@@ -125,7 +126,7 @@ fn pointed<'a>(
     owners: &'a [u8],
     members: &'a [u8],
 ) -> bool
-    ensures { λ r. ⌜ r ≡ (stillCounted (now (counts .entry)) (isMember (now (members .entry))) || ledAmongIn standing counted (now (widths .entry)) (now (slots .entry)) (now (owners .entry)) (isMember (now (members .entry)))) ⌝ }
+    ensures { λ r. ⌜ r ≡ (stillCounted (now (counts .entry)) (tickAt (now (members .entry))) || ledAmongIn standing counted (now (widths .entry)) (now (slots .entry)) (now (owners .entry)) (tickAt (now (members .entry)))) ⌝ }
 {
     if joint_parts::still_counted(counts, members) {
         return true;

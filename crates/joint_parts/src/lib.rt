@@ -6,13 +6,13 @@ ghost use Rattle.regions.specs.Regions.{closedIn};
 ghost use Rattle.regions.specs.Laws.Steps.{leavings};
 ghost use Rattle.pages.specs.Pages.{pageCountIn, pagesWith};
 ghost use Rattle.outcomes.specs.Store.{ledAmongIn};
-ghost use Rattle.members.specs.Members.{isMember};
+ghost use Rattle.lists.specs.Ticks.{tickAt};
 ghost use Rattle.joint_parts.specs.Joint.{stray, stillCounted, outFrom, freedTo, heldBy, namesLeft};
 
 // Whether entry e has a live region that is no member, right below one that is.
 fn stray<'a>(names: &'a [u32], parents: &'a [u8], members: &'a [u8], e: u32) -> bool
     requires { ⌜ e < 64 ⌝ }
-    ensures { λ r. ⌜ r ≡ stray (now (names .entry)) (now (parents .entry)) (isMember (now (members .entry))) e ⌝ }
+    ensures { λ r. ⌜ r ≡ stray (now (names .entry)) (now (parents .entry)) (tickAt (now (members .entry))) e ⌝ }
 {
     if regions::name_at(names, e) == 0 {
         return false;
@@ -25,7 +25,7 @@ fn stray<'a>(names: &'a [u32], parents: &'a [u8], members: &'a [u8], e: u32) -> 
 
 // Whether every live region right below a member is a member.
 pub fn closed<'a>(names: &'a [u32], parents: &'a [u8], members: &'a [u8]) -> bool
-    ensures { λ r. ⌜ r ≡ closedIn (now (names .entry)) (now (parents .entry)) (isMember (now (members .entry))) ⌝ }
+    ensures { λ r. ⌜ r ≡ closedIn (now (names .entry)) (now (parents .entry)) (tickAt (now (members .entry))) ⌝ }
 {
     let mut i: u32 = 0;
     while i < 64 {
@@ -46,7 +46,7 @@ pub fn led<'a>(
     owners: &'a [u8],
     members: &'a [u8],
 ) -> bool
-    ensures { λ r. ⌜ r ≡ ledAmongIn standing counted (now (widths .entry)) (now (slots .entry)) (now (owners .entry)) (isMember (now (members .entry))) ⌝ }
+    ensures { λ r. ⌜ r ≡ ledAmongIn standing counted (now (widths .entry)) (now (slots .entry)) (now (owners .entry)) (tickAt (now (members .entry))) ⌝ }
 {
     let n = frames::frame_count(standing);
     let mut found = false;
@@ -69,7 +69,7 @@ pub fn led<'a>(
 
 // Whether some member's count is not 0.
 pub fn still_counted<'a>(counts: &'a [u32], members: &'a [u8]) -> bool
-    ensures { λ r. ⌜ r ≡ stillCounted (now (counts .entry)) (isMember (now (members .entry))) ⌝ }
+    ensures { λ r. ⌜ r ≡ stillCounted (now (counts .entry)) (tickAt (now (members .entry))) ⌝ }
 {
     let mut i: u32 = 0;
     while i < 64 {
@@ -95,7 +95,7 @@ pub fn scan<'a>(
     members: &'a [u8],
     counts: &mut [u32],
 )
-    ensures { λ _. ⌜ now (counts .exit) ≡ leavings (now (counts .entry)) (outFrom (kindsWith declared (now (sizes .entry)) (now (marks .entry))) (now (heap .entry)) (pagesWith made (now (owners .entry)) (now (taken .entry))) (isMember (now (members .entry))) (pageCountIn made)) ⌝ }
+    ensures { λ _. ⌜ now (counts .exit) ≡ leavings (now (counts .entry)) (outFrom (kindsWith declared (now (sizes .entry)) (now (marks .entry))) (now (heap .entry)) (pagesWith made (now (owners .entry)) (now (taken .entry))) (tickAt (now (members .entry))) (pageCountIn made)) ⌝ }
 {
     let n = pages::page_count(made);
     let mut j: u32 = 0;
@@ -111,7 +111,7 @@ pub fn scan<'a>(
 
 // The members' pages are free. Gives how many there were.
 pub fn give_back(made: u32, owners: &mut [u8], members: &[u8]) -> u32
-    ensures { λ r. ⌜ (r ≡ heldBy (now (owners .entry)) (isMember (now (members .entry))) (pageCountIn made)) × (now (owners .exit) ≡ freedTo (now (owners .entry)) (isMember (now (members .entry))) (pageCountIn made)) ⌝ }
+    ensures { λ r. ⌜ (r ≡ heldBy (now (owners .entry)) (tickAt (now (members .entry))) (pageCountIn made)) × (now (owners .exit) ≡ freedTo (now (owners .entry)) (tickAt (now (members .entry))) (pageCountIn made)) ⌝ }
 {
     let n = pages::page_count(made);
     let mut number: u32 = 0;
@@ -128,7 +128,7 @@ pub fn give_back(made: u32, owners: &mut [u8], members: &[u8]) -> u32
 
 // The members' entries are given up.
 pub fn give_up(names: &mut [u32; 64], members: &[u8])
-    ensures { λ _. ⌜ now (names .exit) ≡ namesLeft (now (names .entry)) (isMember (now (members .entry))) 64 ⌝ }
+    ensures { λ _. ⌜ now (names .exit) ≡ namesLeft (now (names .entry)) (tickAt (now (members .entry))) 64 ⌝ }
 {
     let mut i: u32 = 0;
     while i < 64 {

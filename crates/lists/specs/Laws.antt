@@ -5,5 +5,6 @@ pub mod All
 pub mod Finds
 pub mod UpTo
 pub mod Sets
+pub mod Ticks
 pub mod Kept
 pub mod Every

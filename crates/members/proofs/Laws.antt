@@ -13,7 +13,8 @@ use Rattle.lists.specs.Lists.{pick, among, repeats}
 use Rattle.lists.specs.Laws.Tests.{by-test}
 use Rattle.model.specs.Calls.{reason, nameTests}
 use Rattle.regions.specs.Regions.{entryIn}
-use Rattle.members.specs.Members.{marking, tagIn, deadIn, nameRefusal}
+use Rattle.lists.specs.Ticks.{ticked}
+use Rattle.members.specs.Members.{tagIn, deadIn, nameRefusal}
 
 -- what is left past the end
 pub none-left : (l : List ℕ) (i : ℕ) → length l ≤ i → drop i l ≡ []
@@ -67,6 +68,6 @@ module _ (l : List ℕ) (i : ℕ) (h : i < length l) where
     undecided g r z q = rw (z, q, entry, come, next) (sym (refused-next names (getD l i 0) (drop (i + 1) l)))
 
     -- ms are the marks that were left
-    pub marks-next : (m ms : List ℕ) → ms ≡ set m (e + 1) 1 → marking ms (map (tagIn names) (drop (i + 1) l)) ≡ marking m (map (tagIn names) (drop i l))
-    unfolding marking tagIn
+    pub marks-next : (m ms : List ℕ) → ms ≡ set m (e + 1) 1 → ticked ms (map (tagIn names) (drop (i + 1) l)) ≡ ticked m (map (tagIn names) (drop i l))
+    unfolding ticked tagIn
     marks-next m ms q = rw (q, entry, come, next)

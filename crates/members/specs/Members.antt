@@ -1,21 +1,11 @@
--- Regions that are known together: marks by tag, in an array with a place for each tag from 0 to 64.
+-- Regions by their names, as a list of names is gone through.
 -- Assumes nothing.
 use mathlib.Core.Bool.{Bool, not}
-use mathlib.Core.List.{List, [], _∷_}
+use mathlib.Core.List.{List}
 use Prim.Native.Nat.{ℕ, _+_}
 use lib.Dec.{eqb, ltb}
-use lib.ListN.{getD, set}
 use Rattle.lists.specs.Lists.{pick}
 use Rattle.regions.specs.Regions.{entryIn}
-
--- the region with tag t is marked
-unfoldable pub isMember : List ℕ → ℕ → Bool
-isMember marks t = not (eqb (getD marks t 0) 0)
-
--- the marks with those of a list of tags
-unfoldable pub marking : List ℕ → List ℕ → List ℕ
-marking marks [] = marks
-marking marks (t ∷ ts) = marking (set marks t 1) ts
 
 -- by the names of the entries: the tag of the live region named n, 65 where there is none; and whether there is none
 unfoldable pub tagIn : List ℕ → ℕ → ℕ

@@ -1,16 +1,17 @@
-// The regions that a list names, known together: marks by tag, a byte that is not 0 for a member. What is wrong with the list itself, and with its names one by one.
+// The regions that a list names, known together: marks by tag, 1 for a member. What is wrong with the list itself, and with its names one by one.
 ghost use mathlib.Core.Path.{_≡_};
 ghost use mathlib.Core.List.{map};
 ghost use lib.ListN.{drop};
 ghost use Rattle.lists.specs.Lists.{among};
 ghost use Rattle.model.specs.Calls.{reason, wrongNames, nameTests};
-ghost use Rattle.members.specs.Members.{isMember, marking, tagIn, deadIn, nameRefusal};
+ghost use Rattle.lists.specs.Ticks.{tickAt, ticked};
+ghost use Rattle.members.specs.Members.{tagIn, deadIn, nameRefusal};
 
 // Whether the region with that tag is a member.
 pub fn is_member(members: &[u8], t: u32) -> bool
-    ensures { λ r. ⌜ r ≡ isMember (now (members .entry)) t ⌝ }
+    ensures { λ r. ⌜ r ≡ tickAt (now (members .entry)) t ⌝ }
 {
-    cells::byte(members, t as usize) != 0
+    cells::byte(members, t as usize) == 1
 }
 
 // Whether n stands in the list from place i on.
@@ -60,7 +61,7 @@ fn name_refusal(e: u32, n: u32) -> u32
 
 // Marks the regions that the list names. Gives 2 or 3 for the first name that has one of them, 0 where none has.
 pub fn mark<'a>(names: &'a [u32], list: &'a [u32], members: &mut [u8]) -> u32
-    ensures { λ r. ⌜ (r ≡ reason (nameTests (deadIn (now (names .entry))) (now (list .entry)))) × (now (members .exit) ≡ marking (now (members .entry)) (map (tagIn (now (names .entry))) (now (list .entry)))) ⌝ }
+    ensures { λ r. ⌜ (r ≡ reason (nameTests (deadIn (now (names .entry))) (now (list .entry)))) × (now (members .exit) ≡ ticked (now (members .entry)) (map (tagIn (now (names .entry))) (now (list .entry)))) ⌝ }
 {
     let mut g: u32 = 0;
     let mut j: usize = 0;

@@ -1,10 +1,10 @@
 use borrow.Author.Needs.{needs}
-use Rattle.audit_heap.specs.Heap.{headAt}
+use Rattle.lists.specs.Ticks.{tickAt}
 use Rattle.audit_heap.proofs.stands_at.Statement.{statement}
 use Rattle.audit_heap.proofs.stands_at.Tie as tie
 
 returns : tie.Need-returns
-unfolding headAt
+unfolding tickAt
 returns c = rw (← c .byte .ensures)
 
 pub stands-at-spec : {M : Type 1} → statement M

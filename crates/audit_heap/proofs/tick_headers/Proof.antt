@@ -4,10 +4,11 @@ use native.Mathlib.Omega.{arith}
 use lib.ListN.{length}
 use borrow.Author.Needs.{needs}
 use Rattle.lists.specs.Lists.{joined, upTo}
+use Rattle.lists.specs.Ticks.{ticked}
 use Rattle.lists.specs.Laws.UpTo.{joined-next}
 use Rattle.pages.specs.Pages.{pageCountIn}
-use Rattle.audit_heap.specs.Heap.{headersHeld, allHeaders, ticked}
-use Rattle.audit_heap.specs.Laws.Ticks.{ticked-append, ticked-length}
+use Rattle.audit_heap.specs.Heap.{headersHeld, allHeaders}
+use Rattle.lists.specs.Laws.Ticks.{ticked-append, ticked-length}
 use Rattle.audit_heap.proofs.tick_headers.Statement.{statement}
 use Rattle.audit_heap.proofs.tick_headers.Tie as tie
 

@@ -2,7 +2,8 @@ use mathlib.Core.Logic.{_≢_}
 use native.Mathlib.Omega.{arith}
 use borrow.Author.Needs.{needs}
 use borrow.Author.Tests.{eq-eqb, ne-eqb}
-use Rattle.audit_heap.specs.Heap.{headersHeld, ticked}
+use Rattle.lists.specs.Ticks.{ticked}
+use Rattle.audit_heap.specs.Heap.{headersHeld}
 use Rattle.audit_heap.proofs.tick_held.Statement.{statement}
 use Rattle.audit_heap.proofs.tick_held.Tie as tie
 

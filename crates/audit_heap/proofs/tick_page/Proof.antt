@@ -4,9 +4,9 @@ use mathlib.Core.List.{List, []}
 use native.Mathlib.Omega.{arith}
 use lib.ListN.{length, length-set}
 use borrow.Author.Needs.{needs}
+use Rattle.lists.specs.Ticks.{ticked}
 use Rattle.kinds.specs.Kinds.{kindsWith}
 use Rattle.objects.specs.Laws.Walk.{headersLeft, headers-page, headers-end, headers-stop, headers-on}
-use Rattle.audit_heap.specs.Heap.{ticked}
 use Rattle.audit_heap.proofs.tick_page.Statement.{statement}
 use Rattle.audit_heap.proofs.tick_page.Tie as tie
 

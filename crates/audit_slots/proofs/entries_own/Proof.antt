@@ -2,15 +2,15 @@ use Prim.Native.Nat.{_-_}
 use native.Mathlib.Omega.{arith}
 use borrow.Author.Needs.{needs}
 use borrow.Author.Tests.{not-true, not-false}
+use Rattle.lists.specs.Ticks.{tickAt}
 use Rattle.lists.specs.Laws.Every.{Passed, passed-none, passed-more, passed-not, passed-all}
-use Rattle.audit_heap.specs.Heap.{headAt}
 use Rattle.audit_slots.specs.Leads.{entryOwns, entriesOwn}
 use Rattle.audit_slots.proofs.entries_own.Statement.{statement}
 use Rattle.audit_slots.proofs.entries_own.Tie as tie
 
 -- the entries passed fit
 abbrev Inv-loop : tie.InvT-loop
-Inv-loop heads names newest oldest made owners i₀ i = Passed (entryOwns (headAt heads) names newest oldest made owners) 64 i
+Inv-loop heads names newest oldest made owners i₀ i = Passed (entryOwns (tickAt heads) names newest oldest made owners) 64 i
 
 abbrev μ-loop : tie.MeasureT-loop
 μ-loop heads names newest oldest made owners i₀ i = 64 - i
@@ -20,7 +20,7 @@ unfolding entriesOwn
 returns c =
     let l = c .before .before .before in
     let a = l .before .before .before .before .before .before .args in
-    passed-not (entryOwns (headAt (a .heads .now)) (a .names .now) (a .newest .now) (a .oldest .now) (a .made) (a .owners .now)) 64 (l .loop .i) (omega arith)
+    passed-not (entryOwns (tickAt (a .heads .now)) (a .names .now) (a .newest .now) (a .oldest .now) (a .made) (a .owners .now)) 64 (l .loop .i) (omega arith)
     (rw (← c .before .entry-owns .ensures) (not-true (c .before .entry-owns .result) (c .if1 .taken)))
 
 loop-again : tie.Need-loop-again Inv-loop μ-loop
@@ -33,7 +33,7 @@ unfolding entriesOwn
 returns-2 c =
     let l = c .before in
     let a = l .before .before .before .before .before .before .args in
-    passed-all (entryOwns (headAt (a .heads .now)) (a .names .now) (a .newest .now) (a .oldest .now) (a .made) (a .owners .now)) 64 (l .loop .i) (l .loop .inv) (omega arith)
+    passed-all (entryOwns (tickAt (a .heads .now)) (a .names .now) (a .newest .now) (a .oldest .now) (a .made) (a .owners .now)) 64 (l .loop .i) (l .loop .inv) (omega arith)
 
 pub entries-own-spec : {M : Type 1} → statement M
 entries-own-spec =

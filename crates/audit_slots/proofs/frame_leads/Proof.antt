@@ -3,16 +3,16 @@ use Prim.Native.Nat.{_-_}
 use native.Mathlib.Omega.{arith}
 use borrow.Author.Needs.{needs}
 use borrow.Author.Tests.{not-true, not-false}
+use Rattle.lists.specs.Ticks.{tickAt}
 use Rattle.lists.specs.Laws.Every.{Passed, passed-none, passed-more, passed-not, passed-all}
 use Rattle.frames.specs.Frames.{widthIn, slotIn}
-use Rattle.audit_heap.specs.Heap.{headAt}
 use Rattle.audit_slots.specs.Leads.{known, frameLeads}
 use Rattle.audit_slots.proofs.frame_leads.Statement.{statement}
 use Rattle.audit_slots.proofs.frame_leads.Tie as tie
 
 -- the slots passed lead to objects
 abbrev Inv-loop : tie.InvT-loop
-Inv-loop heads widths slots i n s₀ s = (n ≡ widthIn widths i) × Passed (λ s. known (headAt heads) (slotIn slots i s)) (widthIn widths i) s
+Inv-loop heads widths slots i n s₀ s = (n ≡ widthIn widths i) × Passed (λ s. known (tickAt heads) (slotIn slots i s)) (widthIn widths i) s
 
 abbrev μ-loop : tie.MeasureT-loop
 μ-loop heads widths slots i n s₀ s = n - s

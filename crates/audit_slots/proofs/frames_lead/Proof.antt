@@ -3,16 +3,16 @@ use Prim.Native.Nat.{_-_}
 use native.Mathlib.Omega.{arith}
 use borrow.Author.Needs.{needs}
 use borrow.Author.Tests.{not-true, not-false}
+use Rattle.lists.specs.Ticks.{tickAt}
 use Rattle.lists.specs.Laws.Every.{Passed, passed-none, passed-more, passed-not, passed-all}
 use Rattle.frames.specs.Frames.{frameCountIn}
-use Rattle.audit_heap.specs.Heap.{headAt}
 use Rattle.audit_slots.specs.Leads.{frameLeads, framesLead}
 use Rattle.audit_slots.proofs.frames_lead.Statement.{statement}
 use Rattle.audit_slots.proofs.frames_lead.Tie as tie
 
 -- the slots of the frames passed lead to objects
 abbrev Inv-loop : tie.InvT-loop
-Inv-loop heads standing widths slots n i₀ i = (n ≡ frameCountIn standing) × Passed (frameLeads (headAt heads) widths slots) (frameCountIn standing) i
+Inv-loop heads standing widths slots n i₀ i = (n ≡ frameCountIn standing) × Passed (frameLeads (tickAt heads) widths slots) (frameCountIn standing) i
 
 abbrev μ-loop : tie.MeasureT-loop
 μ-loop heads standing widths slots n i₀ i = n - i

@@ -2,13 +2,13 @@ use mathlib.Core.Path.{_≡_, sym}
 use Prim.Native.Nat.{_-_}
 use borrow.Author.Needs.{needs}
 use borrow.Author.Tests.{eq-eqb, ne-eqb, not-true, not-false}
-use Rattle.audit_heap.specs.Heap.{headAt}
+use Rattle.lists.specs.Ticks.{tickAt}
 use Rattle.audit_slots.specs.Leads.{oldestFits}
 use Rattle.audit_slots.proofs.oldest_fits.Statement.{statement}
 use Rattle.audit_slots.proofs.oldest_fits.Tie as tie
 
 -- the test of the place that the pointer leads to
-stands : (c : tie.After-stands-at) → let v = c .before .before in let a = v .before .before .before .before .args in headAt (a .heads .now) (v .oldest-at .result - 1) ≡ c .stands-at .result
+stands : (c : tie.After-stands-at) → let v = c .before .before in let a = v .before .before .before .before .args in tickAt (a .heads .now) (v .oldest-at .result - 1) ≡ c .stands-at .result
 stands c = sym (c .stands-at .ensures)
 
 returns : tie.Need-returns

@@ -6,10 +6,10 @@ use native.Mathlib.Omega.{arith}
 use borrow.Author.Needs.{needs}
 use borrow.Author.Tests.{not-true, not-false}
 use Rattle.lists.specs.Lists.{every}
+use Rattle.lists.specs.Ticks.{tickAt}
 use Rattle.kinds.specs.Kinds.{kindsWith, sizeOf}
 use Rattle.objects.specs.Objects.{headersTo}
 use Rattle.objects.specs.Laws.Walk.{headersLeft, headers-page, headers-end, headers-stop, headers-on}
-use Rattle.audit_heap.specs.Heap.{headAt}
 use Rattle.audit_words.specs.Words.{objectHolds, objectsHold}
 use Rattle.audit_words.specs.Laws.Parts.{object-words}
 use Rattle.audit_words.proofs.objects_hold.Statement.{statement}
@@ -18,7 +18,7 @@ use Rattle.audit_words.proofs.objects_hold.Tie as tie
 -- the objects left at place `at` hold
 abbrev rest : List ℕ → List ℕ → List ℕ → List ℕ → List ℕ → ℕ → List ℕ → List ℕ → List ℕ → ℕ → ℕ → ℕ → Bool
 rest heads names parents levels owners declared sizes marks heap own end at =
-    every (objectHolds (headAt heads) names parents levels owners declared sizes marks heap own) (headersLeft (kindsWith declared sizes marks) heap at end)
+    every (objectHolds (tickAt heads) names parents levels owners declared sizes marks heap own) (headersLeft (kindsWith declared sizes marks) heap at end)
 
 -- the objects left hold if all do
 abbrev Inv-loop : tie.InvT-loop
@@ -50,7 +50,7 @@ next c =
     let k = kindsWith (a .declared) (a .sizes .now) (a .marks .now) in
     let m = z .before .part-at .ensures in
     let n = headers-on k (a .heap .now) (l .loop .at) (64 * a .j + a .n) _ (rw m at (z .fitting .ensures)) (c .before .if1 .left) in
-    let o = object-words (headAt (a .heads .now)) (a .names .now) (a .parents .now) (a .levels .now) (a .owners .now) (a .declared) (a .sizes .now) (a .marks .now) (a .heap .now) (a .own) (l .loop .at) _ (n .1) in
+    let o = object-words (tickAt (a .heads .now)) (a .names .now) (a .parents .now) (a .levels .now) (a .owners .now) (a .declared) (a .sizes .now) (a .marks .now) (a .heap .now) (a .own) (l .loop .at) _ (n .1) in
     (n .0, rw (n .2, o, rw m at (c .words-hold .ensures)))
 
 -- what the objects left come to, all come to

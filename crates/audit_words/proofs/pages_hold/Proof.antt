@@ -3,9 +3,9 @@ use Prim.Native.Nat.{_-_}
 use native.Mathlib.Omega.{arith}
 use borrow.Author.Needs.{needs}
 use borrow.Author.Tests.{not-true, not-false}
+use Rattle.lists.specs.Ticks.{tickAt}
 use Rattle.lists.specs.Laws.Every.{Passed, passed-none, passed-more, passed-not, passed-all}
 use Rattle.pages.specs.Pages.{pageCountIn}
-use Rattle.audit_heap.specs.Heap.{headAt}
 use Rattle.audit_words.specs.Words.{pageHolds, pagesHold}
 use Rattle.audit_words.proofs.pages_hold.Statement.{statement}
 use Rattle.audit_words.proofs.pages_hold.Tie as tie
@@ -13,7 +13,7 @@ use Rattle.audit_words.proofs.pages_hold.Tie as tie
 -- the objects of the pages passed hold
 abbrev Inv-loop : tie.InvT-loop
 Inv-loop declared sizes marks heap heads names parents levels made owners taken n j₀ j =
-    (n ≡ pageCountIn made) × Passed (pageHolds (headAt heads) names parents levels owners declared sizes marks heap taken) (pageCountIn made) j
+    (n ≡ pageCountIn made) × Passed (pageHolds (tickAt heads) names parents levels owners declared sizes marks heap taken) (pageCountIn made) j
 
 abbrev μ-loop : tie.MeasureT-loop
 μ-loop declared sizes marks heap heads names parents levels made owners taken n j₀ j = n - j

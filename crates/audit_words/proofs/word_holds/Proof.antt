@@ -7,9 +7,9 @@ use lib.Dec.{eqb}
 use native.Mathlib.Omega.{arith}
 use borrow.Author.Needs.{needs}
 use borrow.Author.Tests.{eq-eqb, ne-eqb, not-true, not-false}
+use Rattle.lists.specs.Ticks.{tickAt}
 use Rattle.regions.specs.Regions.{allowsIn}
 use Rattle.pages.specs.Pages.{ownerIn}
-use Rattle.audit_heap.specs.Heap.{headAt}
 use Rattle.audit_words.specs.Words.{wordHolds}
 use Rattle.audit_words.proofs.word_holds.Statement.{statement}
 use Rattle.audit_words.proofs.word_holds.Tie as tie
@@ -24,7 +24,7 @@ by-rule stands names parents levels owners own m x a b c = rw (a, b, c)
 pointer : (c : tie.Else1) → c .before .before .before .before .before .before .before .args .m ≢ 0
 pointer c e = omega arith
 
-stands : (c : tie.After-stands-at) → let x = c .before .before in let a = x .before .before .before .before .before .before .before .before .args in headAt (a .heads .now) (x .word-at .result - 1) ≡ c .stands-at .result
+stands : (c : tie.After-stands-at) → let x = c .before .before in let a = x .before .before .before .before .before .before .before .before .args in tickAt (a .heads .now) (x .word-at .result - 1) ≡ c .stands-at .result
 stands c = sym (c .stands-at .ensures)
 
 -- the rule is asked of the own region and the one led into
@@ -61,8 +61,8 @@ returns-4 c =
     let a = x .before .before .before .before .before .before .before .before .args in
     let v = x .word-at .result in
     asks c
-    ∙ by-rule (headAt (a .heads .now)) (a .names .now) (a .parents .now) (a .levels .now) (a .owners .now) (a .own) (a .m) v (ne-eqb _ _ (pointer (x .before))) (ne-eqb _ _ (i .if2 .left)) (stands (t .before) ∙ not-false (t .before .stands-at .result) (t .if3 .left))
-    ∙ ap (wordHolds (headAt (a .heads .now)) (a .names .now) (a .parents .now) (a .levels .now) (a .owners .now) (a .own) (a .m)) (x .word-at .ensures)
+    ∙ by-rule (tickAt (a .heads .now)) (a .names .now) (a .parents .now) (a .levels .now) (a .owners .now) (a .own) (a .m) v (ne-eqb _ _ (pointer (x .before))) (ne-eqb _ _ (i .if2 .left)) (stands (t .before) ∙ not-false (t .before .stands-at .result) (t .if3 .left))
+    ∙ ap (wordHolds (tickAt (a .heads .now)) (a .names .now) (a .parents .now) (a .levels .now) (a .owners .now) (a .own) (a .m)) (x .word-at .ensures)
 
 pub word-holds-spec : {M : Type 1} → statement M
 word-holds-spec = tie.close (tie.spec returns (λ c κs. search needs) returns-2 (λ c. search needs) (λ c κs. search needs) returns-3 (λ c κs. search needs) (λ c κs. search needs) returns-4)

@@ -2,17 +2,17 @@ use Prim.Native.Nat.{_-_}
 use native.Mathlib.Omega.{arith}
 use borrow.Author.Needs.{needs}
 use borrow.Author.Tests.{not-true, not-false}
+use Rattle.lists.specs.Ticks.{tickAt}
 use Rattle.lists.specs.Laws.Every.{Passed, passed-none, passed-more, passed-not, passed-all}
 use Rattle.kinds.specs.Kinds.{markIn}
 use Rattle.objects.specs.Parts.{headerIn, wordIn}
-use Rattle.audit_heap.specs.Heap.{headAt}
 use Rattle.audit_words.specs.Words.{wordHolds, wordsHold}
 use Rattle.audit_words.proofs.words_hold.Statement.{statement}
 use Rattle.audit_words.proofs.words_hold.Tie as tie
 
 -- the words passed hold
 abbrev Inv-loop : tie.InvT-loop
-Inv-loop marks object n heads names parents levels owners own w₀ w = Passed (λ w. wordHolds (headAt heads) names parents levels owners own (markIn marks (headerIn object) w) (wordIn object w)) n w
+Inv-loop marks object n heads names parents levels owners own w₀ w = Passed (λ w. wordHolds (tickAt heads) names parents levels owners own (markIn marks (headerIn object) w) (wordIn object w)) n w
 
 abbrev μ-loop : tie.MeasureT-loop
 μ-loop marks object n heads names parents levels owners own w₀ w = n - w

@@ -12,6 +12,7 @@ use lib.Dec.{eqb, ltb, eqb·suc-zero}
 use lib.ListN.{length, getD, replicate}
 use borrow.Author.Tests.{eqb-true, eqb-false, ne-eqb, not-true}
 use Rattle.lists.specs.Lists.{every, sumOf, All, upTo}
+use Rattle.lists.specs.Ticks.{ticked, tickAt}
 use Rattle.lists.specs.Laws.Tests.{both, by-test, or-other, or-right}
 use Rattle.lists.specs.Laws.All.{all-map}
 use Rattle.lists.specs.Laws.Finds.{every-same}
@@ -32,9 +33,9 @@ use Rattle.outcomes.specs.Sound.{Sound, filled, newestOwn, oldestOwn}
 use Rattle.outcomes.specs.Laws.Begin.{holderOf, headersOf, headers, objectAt, holding, begin-objects, page-of, leads-among, pages-held, pages-filled, home-none}
 use Rattle.outcomes.specs.Laws.Tree.{Tree, above-same}
 use Rattle.outcomes.specs.Laws.Pointers.{Ordered, valueAt, every-slot, every-pointer, home-name, home-tag}
-use Rattle.audit_heap.specs.Heap.{headersIn, filledTo, pageFits, pagesFit, headersHeld, allHeaders, ticked, headAt}
+use Rattle.audit_heap.specs.Heap.{headersIn, filledTo, pageFits, pagesFit, headersHeld, allHeaders}
 use Rattle.audit_slots.specs.Leads.{newestFits, oldestFits, entriesOwn, known, frameLeads, framesLead}
-use Rattle.audit_heap.specs.Laws.Ticks.{blank-ticked}
+use Rattle.lists.specs.Laws.Ticks.{blank-ticked}
 use Rattle.audit_words.specs.Words.{wordHolds, objectHolds, objectsHold, pageHolds, pagesHold}
 
 module _ (S : Store) where
@@ -51,7 +52,7 @@ module _ (S : Store) where
   heldHeaders = allHeaders ((kinds S) .declared) ((kinds S) .sizes) (S .heap) ((pages S) .made) ((pages S) .owners) ((pages S) .taken)
 
   abbrev pub stands : ℕ → Bool
-  stands = headAt (ticked (replicate 16384 0) heldHeaders)
+  stands = tickAt (ticked (replicate 16384 0) heldHeaders)
 
   abbrev pub newestPasses : ℕ → Bool
   newestPasses = newestFits ((regions S) .newest) ((pages S) .made) ((pages S) .owners)
@@ -149,7 +150,7 @@ module _ (S : Store) where
     stands-same q =
         leads-among S q
         ∙ sym (blank-ticked 16384 (headers S) q headers-below)
-        ∙ ap (λ qs. headAt (ticked (replicate 16384 0) qs) q) (sym headers-same)
+        ∙ ap (λ qs. tickAt (ticked (replicate 16384 0) qs) q) (sym headers-same)
 
     -- the same after a test that the pointer is not null, with more tests on it
     pointer-same : (v : ℕ) (a b : Bool) → (leads (begin S) v ≡ true → a ≡ b) → (eqb v 0 || (leads (begin S) v && a)) ≡ (eqb v 0 || (stands (v - 1) && b))

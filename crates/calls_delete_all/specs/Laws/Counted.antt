@@ -2,38 +2,32 @@
 -- Assumes nothing.
 use mathlib.Core.Path.{_≡_, refl, sym, ap, _∙_, fun-ext}
 use mathlib.Core.Bool.{Bool, true, false, not, _&&_}
-use mathlib.Core.List.{List, [], _∷_, _++_, map}
-use Prim.Native.Nat.{ℕ, suc, _+_, _<_, _≤_}
+use mathlib.Core.List.{List, [], map}
+use Prim.Native.Nat.{ℕ, suc, _<_, _≤_}
 use lib.Dec.{eqb}
 use lib.ListN.{getD}
 use borrow.Author.Tests.{eqb-true}
 use Rattle.lists.specs.Lists.{bit, pick, anyOf, keep, sumOf, All, joined, upTo, times, among}
 use Rattle.lists.specs.Laws.Sums.{sum-keep, sum-joined}
 use Rattle.lists.specs.Laws.Finds.{any-map}
-use Rattle.lists.specs.Laws.Kept.{sum-members}
+use Rattle.lists.specs.Laws.Kept.{sum-members, any-members}
 use Rattle.kinds.specs.declared.Kinds.{Kinds}
 use Rattle.regions.specs.declared.Regions.{Regions}
-use Rattle.regions.specs.Regions.{entryOf, tagOf, withCounts, moved, recount}
+use Rattle.regions.specs.Regions.{entryOf, tagOf, withCounts, recount}
 use Rattle.regions.specs.Laws.Counts.{Counts, moved-same}
 use Rattle.regions.specs.Laws.Steps.{enterings, leavings}
 use Rattle.regions.specs.Laws.Recount.{enter-leave-recount, leave-recount}
 use Rattle.pages.specs.declared.Pages.{Pages}
 use Rattle.pages.specs.Pages.{pageCountIn, pageCount, ownerAt}
 use Rattle.objects.specs.Objects.{freeWordsOn, freeWordsOf, outOf}
-use Rattle.objects.specs.Laws.Leaving.{out-append}
+use Rattle.objects.specs.Laws.Leaving.{out-joined}
 use Rattle.outcomes.specs.Store.{Store, kinds, regions, pages}
 use Rattle.outcomes.specs.Outcome.{outgoing}
 use Rattle.joint_parts.specs.Joint.{stillCounted, outFrom}
-use Rattle.calls_delete_all.specs.Laws.General.{any-members}
 use Rattle.calls_delete_all.specs.Laws.Tags.{tag-entry, entries-below}
 
-out-joined : (owners : List ℕ) (own : ℕ) (f : ℕ → List ℕ) (l : List ℕ) → outOf owners own (joined f l) ≡ joined (λ j. outOf owners own (f j)) l
-unfolding outOf
-out-joined owners own f [] = refl
-out-joined owners own f (x ∷ xs) = out-append owners own (f x) (joined f xs) ∙ ap (λ r. outOf owners own (f x) ++ r) (out-joined owners own f xs)
-
 module _ (k : Kinds) (heap : List ℕ) (p : Pages) (u : ℕ) where
-  -- how many words marked 1 on page j lead into the region with tag u, where they are the region t's
+  -- how many words marked 1 on page j lead into the region with tag u, where the page is the region t's
   abbrev leading : ℕ → ℕ → ℕ
   leading t j = times u (outOf (p .owners) t (freeWordsOn k heap p j))
 
@@ -66,7 +60,7 @@ module _ (k : Kinds) (heap : List ℕ) (p : Pages) (u : ℕ) where
       go true l = refl
       go false l = refl
 
--- lists with the same tags as often move the counts alike
+-- lists that have each tag equally often move the counts alike
 recount-same : (g : Regions) (come a b : List ℕ) → ((u : ℕ) → times u a ≡ times u b) → recount g come a ≡ recount g come b
 unfolding recount
 recount-same g come a b h = ap (withCounts g) (moved-same (g .counts) come a come b (λ i l. refl) (λ i l. h (suc i)))

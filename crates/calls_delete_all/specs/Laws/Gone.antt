@@ -1,4 +1,4 @@
--- The pages and the names of some regions, given up by their tags and by the list of them.
+-- The pages and the names of some regions given up: what Joint says by a test of tags is what the outcome says by the list.
 -- Assumes nothing.
 use mathlib.Core.Path.{_≡_, refl, sym, ap, _∙_, fun-ext}
 use mathlib.Core.Bool.{Bool, true, false, _&&_}
@@ -13,16 +13,17 @@ use Rattle.lists.specs.Lists.{bit, pick, sumOf, All, upTo, times, among}
 use Rattle.lists.specs.Laws.Tests.{by-test}
 use Rattle.lists.specs.Laws.All.{all-map}
 use Rattle.lists.specs.Laws.Finds.{false-any}
-use Rattle.lists.specs.Laws.UpTo.{getD-map-upTo, length-map-upTo}
 use Rattle.lists.specs.Laws.Kept.{sum-members}
 use Rattle.regions.specs.declared.Regions.{Regions}
 use Rattle.regions.specs.Regions.{entryOf, tagOf, clearedAt}
 use Rattle.regions.specs.Laws.Removed.{cleared-length, cleared-at}
 use Rattle.pages.specs.declared.Pages.{Pages}
 use Rattle.pages.specs.Pages.{pageCountIn, pagesIn, pagesOf, ownersTo}
+use Rattle.joint_parts.specs.Laws.Zeroed.{zeroed-length, zeroed-at}
 use Rattle.joint_parts.specs.Joint.{zeroed, freedTo, heldBy, namesLeft}
 use Rattle.calls_delete_all.specs.Laws.Tags.{tag-entry, entries-below}
 
+-- a bit as a number that counts or does not
 bit-pick : (b : Bool) → bit b ≡ pick b 1 0
 bit-pick true = refl
 bit-pick false = refl
@@ -43,18 +44,13 @@ freed-are owners ts n e = rw e
 
 -- the names left
 pub names-are : (g : Regions) (rs : List ℕ) → All (λ r. entryOf g r < 64) rs → namesLeft (g .names) (λ t. among t (map (tagOf g) rs)) 64 ≡ clearedAt (g .names) (map (entryOf g) rs)
-unfolding namesLeft zeroed
+unfolding namesLeft
 names-are g rs live =
-    ext-getD 0 (map left (upTo (length (g .names)))) (clearedAt (g .names) (map (entryOf g) rs))
-    (length-map-upTo left (length (g .names)) ∙ sym (cleared-length (g .names) (map (entryOf g) rs)))
-    (λ i h.
-    getD-map-upTo left 0 (length (g .names)) i (rw (length-map-upTo left (length (g .names))) at h)
-    ∙ ap (λ b. pick b 0 (getD (g .names) i 0)) (given-up i)
-    ∙ sym (cleared-at (g .names) (map (entryOf g) rs) i))
+    let f : ℕ → Bool = λ i. ltb i 64 && among (suc i) (map (tagOf g) rs) in
+    ext-getD 0 (zeroed f (g .names)) (clearedAt (g .names) (map (entryOf g) rs))
+    (zeroed-length f (g .names) ∙ sym (cleared-length (g .names) (map (entryOf g) rs)))
+    (λ i h. zeroed-at f (g .names) i ∙ ap (λ b. pick b 0 (getD (g .names) i 0)) (given-up i) ∙ sym (cleared-at (g .names) (map (entryOf g) rs) i))
   where
-    left : ℕ → ℕ
-    left i = pick (ltb i 64 && among (suc i) (map (tagOf g) rs)) 0 (getD (g .names) i 0)
-
     given-up : (i : ℕ) → (ltb i 64 && among (suc i) (map (tagOf g) rs)) ≡ among i (map (entryOf g) rs)
     given-up i = by-test (ltb i 64)
         (λ e. rw e (tag-entry g rs i))

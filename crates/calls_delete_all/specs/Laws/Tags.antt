@@ -1,7 +1,7 @@
--- The tags of regions that live, by their names, on any memory: two names have two tags, and none is 0. An entry is a region's where its tag is.
+-- Regions known by their names, on any memory: their tags go with their entries, and where they live two names have two tags, each at most 64.
 -- Assumes nothing.
-use mathlib.Core.Path.{_≡_, refl, ap, _∙_, sym, fun-ext}
-use mathlib.Core.Bool.{Bool, true, false}
+use mathlib.Core.Path.{_≡_, ap, _∙_, sym, fun-ext}
+use mathlib.Core.Bool.{false}
 use mathlib.Core.List.{List, map}
 use Prim.Native.Nat.{ℕ, suc, _+_, _<_, _≤_}
 use native.Mathlib.Omega.{arith}
@@ -11,11 +11,10 @@ use Rattle.lists.specs.Lists.{All, anyOf, times, among, repeats}
 use Rattle.lists.specs.Laws.Tests.{by-test}
 use Rattle.lists.specs.Laws.All.{all-map, all-change}
 use Rattle.lists.specs.Laws.Finds.{any-map}
-use Rattle.lists.specs.Laws.Kept.{repeats-once}
+use Rattle.lists.specs.Laws.Kept.{repeats-once, map-once}
 use Rattle.regions.specs.declared.Regions.{Regions}
-use Rattle.regions.specs.Regions.{nameAt, nameOf, entryIn, entryOf, tagOf}
-use Rattle.regions.specs.Laws.Entries.{name-of}
-use Rattle.calls_delete_all.specs.Laws.General.{map-once, entry-named}
+use Rattle.regions.specs.Regions.{nameAt, nameOf, entryOf, tagOf}
+use Rattle.regions.specs.Laws.Entries.{name-of, entry-named}
 
 eqb-up : (e i : ℕ) → eqb (e + 1) (suc i) ≡ eqb e i
 eqb-up e i = by-test (eqb e i)

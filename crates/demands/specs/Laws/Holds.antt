@@ -1,22 +1,22 @@
 -- Demand 3's statements hold of a store that represents a valid model, whose counts are small, and a history that tells of it.
 -- Assumes nothing.
-use mathlib.Core.Path.{_≡_, refl, sym, ap, _∙_, subst}
+use mathlib.Core.Path.{_≡_, sym, ap, _∙_, subst}
 use mathlib.Core.Logic.{_↔_, _≢_}
-use mathlib.Core.Bool.{Bool, true, false, not, _&&_}
-use mathlib.Core.List.{List, [], _∷_, _++_}
+use mathlib.Core.Bool.{true, false, not, _&&_}
+use mathlib.Core.List.{List}
 use Prim.Native.Nat.{ℕ, _≤_}
 use native.Mathlib.Omega.{arith}
 use lib.Dec.{eqb}
 use lib.ListN.{getD}
 use borrow.Author.Tests.{eqb-true, eq-eqb, ne-eqb, not-false, not-true}
-use Rattle.lists.specs.Lists.{anyOf, every, All}
+use Rattle.lists.specs.Lists.{every, All}
 use Rattle.lists.specs.Laws.Tests.{both}
 use Rattle.lists.specs.Laws.All.{all-map}
 use Rattle.lists.specs.Laws.Finds.{any-false, false-any, every-true}
 use Rattle.model.specs.Model.{Model, Answer, report, delete, deleteAll, livesIn, outside, outsideBut}
-use Rattle.model.specs.Calls.{reason, wrongNames, nameTests, dead, checks, refusal}
+use Rattle.model.specs.Calls.{wrongNames, dead, checks, refusal}
 use Rattle.model.specs.Valid.{Valid}
-use Rattle.model.specs.Laws.Passed.{passed, names-passed}
+use Rattle.model.specs.Laws.Passed.{passed, names-passed, names-go}
 use Rattle.outcomes.specs.Store.{Store, regions, pages}
 use Rattle.outcomes.specs.History.{History, isLive, storedCount, subregions}
 use Rattle.outcomes.specs.History as history
@@ -30,12 +30,6 @@ use Rattle.demands.specs.Demands.{named, Holds}
 use Rattle.histories.specs.Laws.Tells.{Tells, live-is, subregions-are, closed-is}
 use Rattle.histories.specs.Laws.Pointers.{slots-lead, words-lead, outside-is, outside-but-is, uncounted-is}
 use Rattle.histories.specs.Laws.TellsPages.{TellsPages, pages-held}
-
--- names that all pass: the tests after them decide
-names-go : (gone : ℕ → Bool) (rs : List ℕ) (ts : List (Bool × ℕ)) → All (λ r. (gone r ≡ false) × (eqb r 1 ≡ false)) rs → reason (nameTests gone rs ++ ts) ≡ reason ts
-unfolding nameTests
-names-go gone [] ts h = refl
-names-go gone (r ∷ rs) ts h = rw (h .0 .0, h .0 .1) (names-go gone rs ts (h .1))
 
 module _ {L : Model} {sp : List ℕ} {ids : ℕ → List ℕ} {S : Store} {h : History} (v : Valid L) (rep : Represents L sp ids S) (t : Tells L sp h) (u : TellsPages h ((regions S) .names) (pages S)) (small : (r : ℕ) → outside L r ≤ 16640) where
   outside-told : (r : ℕ) → history.outside h S r ≡ outside L r

@@ -3,7 +3,7 @@
 use mathlib.Core.Path.{_≡_, refl, sym, ap, _∙_, subst⁻¹, fun-ext}
 use mathlib.Core.Logic.{_↔_, _≢_, inl, inr}
 use mathlib.Core.Bool.{Bool, true, false, not, _&&_, _||_, or-false}
-use mathlib.Core.List.{List, [], _∷_, map, append-nil}
+use mathlib.Core.List.{List, [], _∷_, append-nil}
 use Prim.Native.Nat.{ℕ, zero, suc, _+_, _≤_, _<_}
 use native.Mathlib.Nat.{add-zero}
 use native.Mathlib.Numerals.{add-one}
@@ -11,9 +11,9 @@ use native.Mathlib.Omega.{arith}
 use lib.Dec.{eqb, eqb·suc-suc}
 use lib.ListN.{getD}
 use borrow.Author.Tests.{eqb-true, eqb-false, eq-eqb, ne-eqb, ltb-true, not-false}
-use Rattle.lists.specs.Lists.{bit, pick, anyOf, every, findOr, sumOf, countOf, upTo, times, among}
+use Rattle.lists.specs.Lists.{bit, pick, every, sumOf, countOf, upTo, times, among}
 use Rattle.lists.specs.Laws.Tests.{by-test, both}
-use Rattle.lists.specs.Laws.Finds.{find-none, find-passes, times-keep}
+use Rattle.lists.specs.Laws.Finds.{every-zero}
 use Rattle.lists.specs.Laws.UpTo.{sum-change}
 use Rattle.lists.specs.Laws.Kept.{among-alone, sum-one}
 use Rattle.model.specs.Model.{Model, delete, deleteAll, gives, refusedBy}
@@ -21,10 +21,12 @@ use Rattle.model.specs.Calls.{wrongNames, nameTests}
 use Rattle.model.specs.Laws.Paged.{stored-bound}
 use Rattle.regions.specs.declared.Regions.{Regions}
 use Rattle.regions.specs.Regions.{nameAt, entryIn, entryOf, tagOf, isLive, parentAt, levelAt, subregionsIn, subregionsOf, closedIn, countAt}
+use Rattle.regions.specs.Laws.Entries.{entry-named}
 use Rattle.regions.specs.Laws.Recount.{recount-exact}
-use Rattle.pages.specs.Pages.{ownerIn, pagesOf}
+use Rattle.pages.specs.Pages.{pagesOf}
 use Rattle.objects.specs.Objects.{freeWordsOf, outOf}
-use Rattle.outcomes.specs.Store.{Store, frames, kinds, regions, pages, targetsIn, uncountedIn, ledIn, ledInto, ledAmongIn, ledAmong}
+use Rattle.objects.specs.Laws.Leaving.{out-own}
+use Rattle.outcomes.specs.Store.{Store, kinds, regions, pages, ledInto, ledAmong}
 use Rattle.outcomes.specs.Shape.{Shaped}
 use Rattle.outcomes.specs.Outcome.{Outcome, Accepted, Answered, badLength, dead, outgoing, countBut, checks, refusal}
 use Rattle.outcomes.specs.Laws.Steps.{by-refusal}
@@ -33,6 +35,7 @@ use Rattle.outcomes.specs.Laws.Tree.{Place, entry-above}
 use Rattle.promises.specs.Promises.{Refusals}
 use Rattle.promises.specs.Laws.Refused.{refusals}
 use Rattle.refinement.specs.Laws.Tags.{live-is}
+use Rattle.refinement.specs.Laws.Together.{led-each}
 use Rattle.audited.specs.Laws.Audited.{audited}
 use Rattle.audited.specs.Laws.Good.{Good}
 use Rattle.demands.specs.Later.{SameAsDelete, OnlyItself, JointOfOne}
@@ -40,18 +43,6 @@ use Rattle.demands.specs.Laws.Steps.{run-told}
 use Rattle.demands.specs.Laws.Demand3.{start-told}
 
 -- ---- 18, by the arrays
-
--- the first number below n that passes, or n, passes if it is below n
-found-passes : (f : ℕ → Bool) (n : ℕ) → findOr f n (upTo n) < n → f (findOr f n (upTo n)) ≡ true
-found-passes f n h = by-test (anyOf f (upTo n)) (find-passes f n (upTo n)) (λ t. absurd (omega (arith, find-none f n (upTo n) t)))
-
-every-zero : (f : ℕ → ℕ) (l : List ℕ) → every (λ x. eqb (f x) 0) l ≡ eqb (sumOf f l) 0
-every-zero f [] = refl
-every-zero f (x ∷ xs) = rw (every-zero f xs) (go (f x) (sumOf f xs))
-  where
-    go : (a b : ℕ) → (eqb a 0 && eqb b 0) ≡ eqb (a + b) 0
-    go zero b = let e : b ≡ 0 + b = omega arith in ap (λ n. eqb n 0) e
-    go (suc a) b = rw (ne-eqb (suc a) 0 (λ e. omega arith), ne-eqb (suc a + b) 0 (λ e. omega arith))
 
 -- no number but k passes below n where as many pass as k alone
 every-but : (f : ℕ → Bool) (n k : ℕ) → k < n → every (λ i. eqb (pick (eqb i k) 0 (bit (f i))) 0) (upTo n) ≡ eqb (countOf f (upTo n)) (bit (f k))
@@ -64,18 +55,6 @@ every-but f n k h =
     go a b c e = by-test (eqb b 0)
         (λ t. rw (t, eq-eqb a c (omega (arith, eqb-true b 0 t))))
         (λ t. rw (t, ne-eqb a c (λ q. eqb-false b 0 t (omega arith))))
-
--- the entry found of a name is in use
-entry-used : (names : List ℕ) (r : ℕ) → entryIn names r < 64 → getD names (entryIn names r) 0 ≢ 0
-unfolding entryIn
-entry-used names r = go (eqb r 0) refl
-  where
-    found : ℕ
-    found = findOr (λ i. eqb (getD names i 0) r) 64 (upTo 64)
-
-    go : (b : Bool) → eqb r 0 ≡ b → pick b 64 found < 64 → getD names (pick b 64 found) 0 ≢ 0
-    go true z h e = omega arith
-    go false z h e = eqb-false r 0 z (sym (eqb-true (getD names found 0) r (found-passes (λ i. eqb (getD names i 0) r) 64 h)) ∙ e)
 
 module _ (names parents : List ℕ) where
   -- a list of one finds no subregion where there is none, or only the region itself
@@ -110,17 +89,12 @@ module _ (names parents : List ℕ) where
 
 -- ---- 19
 
--- the own words of a region are never counted for it
-none-own : (owners : List ℕ) (t : ℕ) (vs : List ℕ) → times t (outOf owners t vs) ≡ 0
-unfolding outOf
-none-own owners t vs = times-keep t (λ x. not (eqb x t)) (map (ownerIn owners) vs) ∙ rw (eq-eqb t t refl)
-
 module _ (S : Store) where
   none-out : (t : ℕ) → times t (outgoing S (t ∷ [])) ≡ 0
   unfolding outgoing
   none-out t =
       let vs = freeWordsOf (kinds S) (S .heap) (pages S) t in
-      rw (append-nil (outOf ((pages S) .owners) t vs)) (none-own ((pages S) .owners) t vs)
+      rw (append-nil (outOf ((pages S) .owners) t vs)) (out-own ((pages S) .owners) t vs)
 
   -- so its count stays
   count-one : (i : ℕ) → i < 64 → countAt (regions S) i < 4294967296 → countBut S (suc i ∷ []) i ≡ countAt (regions S) i
@@ -128,8 +102,7 @@ module _ (S : Store) where
   count-one i l h = recount-exact (regions S) [] (outgoing S (suc i ∷ [])) i (countAt (regions S) i) l (omega (arith, none-out (suc i))) h
 
   look-one : (t : ℕ) → ledAmong S (t ∷ []) ≡ ledInto S t
-  unfolding ledAmong ledAmongIn ledInto ledIn
-  look-one t = ap (λ m. anyOf (λ i. anyOf m (targetsIn ((frames S) .widths) ((frames S) .slots) ((pages S) .owners) i)) (uncountedIn ((frames S) .standing) ((frames S) .counted))) (fun-ext (λ x. among-alone x t))
+  look-one t = led-each S (t ∷ []) ∙ or-false (ledInto S t)
 
 -- ---- the refusals of the two calls
 
@@ -149,8 +122,8 @@ module _ (S : Store) (r : ℕ) where
     in-entries = ltb-true entry 64 (not-false (isLive g r) live)
 
     used : nameAt g entry ≢ 0
-    unfolding nameAt entryOf
-    used = entry-used (g .names) r in-entries
+    unfolding nameAt entryOf entryIn
+    used z = let e = sym (entry-named (g .names) r in-entries) ∙ z in omega (arith, rw e at in-entries)
 
   -- the region's one subregion is itself
   abbrev own : Bool

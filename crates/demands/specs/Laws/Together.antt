@@ -1,19 +1,19 @@
 -- All live regions but region 1 go together, where no frame stands and region 1's free words are null.
 -- Assumes nothing.
 use mathlib.Core.Path.{_≡_, refl, sym, ap, ap₂, _∙_}
-use mathlib.Core.Bool.{Bool, true, false, not, _&&_, _||_, true≢false, false≢true}
-use mathlib.Core.List.{List, [], _∷_}
+use mathlib.Core.Bool.{Bool, true, false, not, _&&_, _||_, true≢false}
+use mathlib.Core.List.{List, []}
 use Prim.Native.Nat.{ℕ, _+_, _≤_}
 use native.Mathlib.Omega.{arith}
 use lib.Dec.{eqb, ltb}
 use lib.ListN.{length}
-use borrow.Author.Tests.{eqb-true, eqb-false, eq-eqb, ne-eqb, ltb-true, ltb-false, lt-ltb, le-ltb, not-true, not-false}
-use Rattle.lists.specs.Lists.{bit, pick, anyOf, every, sumOf, countOf, upTo, All, times, among, repeats}
+use borrow.Author.Tests.{eqb-true, ne-eqb, le-ltb, not-false}
+use Rattle.lists.specs.Lists.{bit, pick, every, sumOf, upTo, All, times, among}
 use Rattle.lists.specs.Laws.Tests.{by-test, or-right, pick-same}
 use Rattle.lists.specs.Laws.All.{all-map, all-both}
-use Rattle.lists.specs.Laws.Finds.{any-count, any-false, false-any, every-true, true-every, find-none}
+use Rattle.lists.specs.Laws.Finds.{any-count, false-any, every-true, true-every, find-none}
 use Rattle.lists.specs.Laws.Sums.{sum-same, sum-nothing}
-use Rattle.lists.specs.Laws.Kept.{all-each, among-self, all-among}
+use Rattle.lists.specs.Laws.Kept.{all-each, among-self, once-repeats}
 use Rattle.model.specs.Model.{Model, Region, noRegion, called, region, livesIn, homeIn, parentIn, closed}
 use Rattle.model.specs.Calls.{wrongNames}
 use Rattle.model.specs.Valid.{Valid}
@@ -21,25 +21,11 @@ use Rattle.model.specs.Laws.Regions.{found-itself, live-zero}
 use Rattle.outcomes.specs.Store.{Store}
 use Rattle.outcomes.specs.History.{History, Object, Word, isLive, at, homeOf, pointersOf, slotsLeadingTo, wordsLeadingTo, outsideBut}
 use Rattle.outcomes.specs.History as history
-use Rattle.demands.specs.Demands.{Holds, named, Demand3}
+use Rattle.demands.specs.Demands.{named, Demand3}
 use Rattle.demands.specs.Later.{freeWordsNull, AllTogether}
 use Rattle.histories.specs.Laws.Tells.{Tells, live-is, closed-is, each-met}
 use Rattle.demands.specs.Laws.Steps.{run-told}
 use Rattle.demands.specs.Laws.Demand3.{start-told, demand3}
-
--- a list in which each number stands once at most has none twice
-once-repeats : (l : List ℕ) → ((q : ℕ) → times q l ≤ 1) → repeats l ≡ false
-once-repeats [] h = refl
-once-repeats (x ∷ xs) h =
-    let none : times x xs ≡ 0 = zero (eqb x x) (eq-eqb x x refl) (h x) in
-    rw (any-count (λ y. eqb y x) xs, none) (once-repeats xs (λ q. less (eqb x q) (times q xs) (h q)))
-  where
-    zero : (b : Bool) → b ≡ true → bit b + times x xs ≤ 1 → times x xs ≡ 0
-    zero true e k = omega arith
-    zero false e k = absurd (false≢true e)
-
-    less : (b : Bool) (n : ℕ) → bit b + n ≤ 1 → n ≤ 1
-    less b n k = omega arith
 
 bit-test : (b : Bool) → ltb 0 (bit b) ≡ b
 bit-test true = refl

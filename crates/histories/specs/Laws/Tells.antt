@@ -12,7 +12,7 @@ use Rattle.lists.specs.Lists.{bit, pick, every, findOr, sumOf, countOf, from, a
 use Rattle.lists.specs.Laws.Tests.{by-test, bit-zero, or-right}
 use Rattle.lists.specs.Laws.All.{all-map}
 use Rattle.lists.specs.Laws.Sums.{sum-zero, sum-nothing}
-use Rattle.lists.specs.Laws.Finds.{any-count, find-none, sum-one, true-every}
+use Rattle.lists.specs.Laws.Finds.{any-count, find-none, sum-one, true-every, every-count}
 use Rattle.model.specs.Model.{Model, Region, noRegion, called, object, livesIn, homeIn, parentIn, subregions, closed, above}
 use Rattle.model.specs.Valid.{Valid}
 use Rattle.model.specs.Laws.Slots.{Known, in-list}
@@ -24,7 +24,6 @@ use Rattle.outcomes.specs.History.{History, isLive, parentOf, aboveOf, at, lead
 use Rattle.outcomes.specs.History as history
 use Rattle.refinement.specs.Represents.{spot, Alive, idsIn, ObjectsAgree}
 use Rattle.refinement.specs.Laws.Reads.{by-known, spot-same}
-use Rattle.refinement.specs.Laws.Together.{every-count}
 use Rattle.lists.specs.Laws.Kept.{sum-single}
 
 -- a region, and object p, as a history lists them

@@ -8,14 +8,14 @@ use borrow.Author.Needs.{needs}
 use borrow.Author.Tests.{not-true, not-false}
 use Rattle.lists.specs.Laws.Every.{Passed, passed-none, passed-more, passed-not, passed-all}
 use Rattle.regions.specs.Regions.{closedIn}
-use Rattle.members.specs.Members.{isMember}
+use Rattle.lists.specs.Ticks.{tickAt}
 use Rattle.joint_parts.specs.Joint.{stray}
 use Rattle.joint_parts.proofs.closed.Statement.{statement}
 use Rattle.joint_parts.proofs.closed.Tie as tie
 
 -- no live region at entry i, or one that is not right below a member, or a member
 abbrev fits : List ℕ → List ℕ → List ℕ → ℕ → Bool
-fits names parents members i = eqb (getD names i 0) 0 || not (isMember members (getD parents i 0)) || isMember members (suc i)
+fits names parents members i = eqb (getD names i 0) 0 || not (tickAt members (getD parents i 0)) || tickAt members (suc i)
 
 abbrev Inv-loop : tie.InvT-loop
 Inv-loop names parents members i₀ i = Passed (fits names parents members) 64 i

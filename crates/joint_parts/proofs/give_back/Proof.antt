@@ -10,7 +10,7 @@ use Rattle.lists.specs.Lists.{upTo}
 use Rattle.lists.specs.Laws.Sums.{count-most}
 use Rattle.lists.specs.Laws.UpTo.{count-next, length-upTo}
 use Rattle.pages.specs.Pages.{pageCountIn}
-use Rattle.members.specs.Members.{isMember}
+use Rattle.lists.specs.Ticks.{tickAt}
 use Rattle.joint_parts.specs.Joint.{freedTo, heldBy}
 use Rattle.joint_parts.specs.Laws.Zeroed.{zeroed-length, zeroed-none, zeroed-later, zeroed-own, zeroed-other}
 use Rattle.joint_parts.proofs.give_back.Statement.{statement}
@@ -18,11 +18,11 @@ use Rattle.joint_parts.proofs.give_back.Tie as tie
 
 -- page j is a member's
 abbrev held : List ℕ → List ℕ → ℕ → Bool
-held owners members j = isMember members (getD owners j 0)
+held owners members j = tickAt members (getD owners j 0)
 
 -- the members' pages passed are free and counted
 abbrev Inv-loop : tie.InvT-loop
-Inv-loop made owners₀ members n number₀ j₀ owners number j = (n ≡ pageCountIn made) × (j ≤ n) × (owners ≡ freedTo owners₀ (isMember members) j) × (number ≡ heldBy owners₀ (isMember members) j)
+Inv-loop made owners₀ members n number₀ j₀ owners number j = (n ≡ pageCountIn made) × (j ≤ n) × (owners ≡ freedTo owners₀ (tickAt members) j) × (number ≡ heldBy owners₀ (tickAt members) j)
 
 abbrev μ-loop : tie.MeasureT-loop
 μ-loop made owners₀ members n number₀ j₀ owners number j = n - j
@@ -39,7 +39,7 @@ unfolding freedTo
 own c =
     let l = c .before .before .before .before in
     let a = l .before .before .before .before .args in
-    c .is-member .ensures ∙ ap (isMember (a .members .now)) (c .before .owner-at .ensures ∙ rw (l .loop .inv .2) (zeroed-later (held (a .owners .now) (a .members .now)) (a .owners .now) (l .loop .j)))
+    c .is-member .ensures ∙ ap (tickAt (a .members .now)) (c .before .owner-at .ensures ∙ rw (l .loop .inv .2) (zeroed-later (held (a .owners .now) (a .members .now)) (a .owners .now) (l .loop .j)))
 
 add-number : tie.Need-add-number Inv-loop μ-loop
 unfolding heldBy

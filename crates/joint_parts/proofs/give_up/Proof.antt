@@ -6,7 +6,7 @@ use Prim.Native.Nat.{ℕ, suc, _-_, _≤_}
 use native.Mathlib.Numerals.{add-one}
 use native.Mathlib.Omega.{arith}
 use borrow.Author.Needs.{needs}
-use Rattle.members.specs.Members.{isMember}
+use Rattle.lists.specs.Ticks.{tickAt}
 use Rattle.joint_parts.specs.Joint.{namesLeft}
 use Rattle.joint_parts.specs.Laws.Zeroed.{zeroed-none, zeroed-own, zeroed-other}
 use Rattle.joint_parts.proofs.give_up.Statement.{statement}
@@ -14,11 +14,11 @@ use Rattle.joint_parts.proofs.give_up.Tie as tie
 
 -- entry i is a member's
 abbrev of-member : List ℕ → ℕ → Bool
-of-member members i = isMember members (suc i)
+of-member members i = tickAt members (suc i)
 
 -- the members' entries passed are given up
 abbrev Inv-loop : tie.InvT-loop
-Inv-loop names₀ members i₀ names i = (i ≤ 64) × (names ≡ namesLeft names₀ (isMember members) i)
+Inv-loop names₀ members i₀ names i = (i ≤ 64) × (names ≡ namesLeft names₀ (tickAt members) i)
 
 abbrev μ-loop : tie.MeasureT-loop
 μ-loop names₀ members i₀ names i = 64 - i

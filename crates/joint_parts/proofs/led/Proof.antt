@@ -11,21 +11,21 @@ use Rattle.lists.specs.Laws.UpTo.{any-one, none-any, from-next, from-end}
 use Rattle.frames.specs.Frames.{frameCountIn, widthIn, slotIn}
 use Rattle.pages.specs.Pages.{ownerIn}
 use Rattle.outcomes.specs.Store.{targetsIn, ledAmongIn}
-use Rattle.members.specs.Members.{isMember}
+use Rattle.lists.specs.Ticks.{tickAt}
 use Rattle.joint_parts.proofs.led.Statement.{statement}
 use Rattle.joint_parts.proofs.led.Tie as tie
 
 module _ (widths slots owners members : List ℕ) (i : ℕ) where
   abbrev into : ℕ → Bool
-  into k = isMember members (ownerIn owners (slotIn slots i k))
+  into k = tickAt members (ownerIn owners (slotIn slots i k))
 
   abbrev leads : Bool
-  leads = anyOf (isMember members) (targetsIn widths slots owners i)
+  leads = anyOf (tickAt members) (targetsIn widths slots owners i)
 
   -- a frame leads into a member exactly if a slot of it does
   slot-by-slot : leads ≡ anyOf into (upTo (widthIn widths i))
   unfolding targetsIn
-  slot-by-slot = any-map (isMember members) (λ s. ownerIn owners (slotIn slots i s)) (upTo (widthIn widths i))
+  slot-by-slot = any-map (tickAt members) (λ s. ownerIn owners (slotIn slots i s)) (upTo (widthIn widths i))
 
   none : ((k : ℕ) → k < widthIn widths i → into k ≡ false) → leads ≡ false
   none h = slot-by-slot ∙ none-any into (widthIn widths i) h
@@ -43,7 +43,7 @@ abbrev μ-loop : tie.MeasureT-loop
 -- the frames left lead into a member exactly if all uncounted frames do
 abbrev Inv-look : tie.InvT-look
 Inv-look standing counted widths slots owners members n found₀ i₀ found i =
-    (found ≡ false) × (n ≡ frameCountIn standing) × (anyOf (leads widths slots owners members) (from i (frameCountIn standing - i)) ≡ ledAmongIn standing counted widths slots owners (isMember members))
+    (found ≡ false) × (n ≡ frameCountIn standing) × (anyOf (leads widths slots owners members) (from i (frameCountIn standing - i)) ≡ ledAmongIn standing counted widths slots owners (tickAt members))
 
 abbrev μ-look : tie.MeasureT-look
 μ-look standing counted widths slots owners members n found₀ i₀ found i = n - i
@@ -64,7 +64,7 @@ slot-is :
     c .is-member .result ≡ into (a .widths .now) (a .slots .now) (a .owners .now) (a .members .now) (o .look .i) (l .loop .k)
 slot-is c =
     let a = c .before .before .before .before .before .before .before .before .before .before .before .before .before .args in
-    c .is-member .ensures ∙ ap (isMember (a .members .now)) (c .before .owner-of .ensures ∙ ap (ownerIn (a .owners .now)) (c .before .before .slot-at .ensures))
+    c .is-member .ensures ∙ ap (tickAt (a .members .now)) (c .before .owner-of .ensures ∙ ap (ownerIn (a .owners .now)) (c .before .before .slot-at .ensures))
 
 loop-again : tie.Need-loop-again Inv-loop μ-loop Inv-look μ-look
 loop-again c =

@@ -7,7 +7,7 @@ use borrow.Author.Needs.{needs}
 use Rattle.kinds.specs.Kinds.{kindsWith}
 use Rattle.regions.specs.Laws.Steps.{steps, leavings, steps-length}
 use Rattle.pages.specs.Pages.{pagesWith, pageCountIn, ownerAt, takenAt}
-use Rattle.members.specs.Members.{isMember}
+use Rattle.lists.specs.Ticks.{tickAt}
 use Rattle.joint_parts.specs.Joint.{outFrom}
 use Rattle.joint_parts.specs.Laws.Out.{out-other, out-left}
 use Rattle.joint_parts.proofs.scan.Statement.{statement}
@@ -16,7 +16,7 @@ use Rattle.joint_parts.proofs.scan.Tie as tie
 -- the words of the pages passed have left
 abbrev Inv-loop : tie.InvT-loop
 Inv-loop declared sizes marks heap made owners taken members counts₀ n j₀ counts j =
-    (n ≡ pageCountIn made) × (j ≤ n) × (counts ≡ leavings counts₀ (outFrom (kindsWith declared sizes marks) heap (pagesWith made owners taken) (isMember members) j))
+    (n ≡ pageCountIn made) × (j ≤ n) × (counts ≡ leavings counts₀ (outFrom (kindsWith declared sizes marks) heap (pagesWith made owners taken) (tickAt members) j))
 
 abbrev μ-loop : tie.MeasureT-loop
 μ-loop declared sizes marks heap made owners taken members counts₀ n j₀ counts j = n - j
@@ -39,8 +39,8 @@ loop-again c =
       l .loop .inv .0,
       omega arith,
       ⊎-elim
-          (λ w. w .6 ∙ w .3 .ensures (omega (arith, w .1 .ensures)) ∙ out-left k (a .heap .now) p (isMember (a .members .now)) j t _ (a .counts .now) _ (o .owner-at .ensures) (w .1 .ensures) (l .loop .inv .2) (sym (m .is-member .ensures) ∙ w .0 .taken))
-          (λ w. w .1 ∙ l .loop .inv .2 ∙ ap (leavings (a .counts .now)) (out-other k (a .heap .now) p (isMember (a .members .now)) j (rw (← o .owner-at .ensures) (sym (m .is-member .ensures) ∙ w .0 .left))))
+          (λ w. w .6 ∙ w .3 .ensures (omega (arith, w .1 .ensures)) ∙ out-left k (a .heap .now) p (tickAt (a .members .now)) j t _ (a .counts .now) _ (o .owner-at .ensures) (w .1 .ensures) (l .loop .inv .2) (sym (m .is-member .ensures) ∙ w .0 .taken))
+          (λ w. w .1 ∙ l .loop .inv .2 ∙ ap (leavings (a .counts .now)) (out-other k (a .heap .now) p (tickAt (a .members .now)) j (rw (← o .owner-at .ensures) (sym (m .is-member .ensures) ∙ w .0 .left))))
           (c .if1 .came),
     )
 

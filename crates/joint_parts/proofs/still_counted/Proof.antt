@@ -11,13 +11,13 @@ use borrow.Author.Count.{below-none, below-more}
 use borrow.Author.Needs.{needs}
 use borrow.Author.Tests.{eq-eqb, ne-eqb}
 use Rattle.lists.specs.Laws.UpTo.{any-one, none-any}
-use Rattle.members.specs.Members.{isMember}
+use Rattle.lists.specs.Ticks.{tickAt}
 use Rattle.joint_parts.specs.Joint.{stillCounted}
 use Rattle.joint_parts.proofs.still_counted.Statement.{statement}
 use Rattle.joint_parts.proofs.still_counted.Tie as tie
 
 abbrev counted : List ℕ → List ℕ → ℕ → Bool
-counted counts members i = isMember members (suc i) && not (eqb (getD counts i 0) 0)
+counted counts members i = tickAt members (suc i) && not (eqb (getD counts i 0) 0)
 
 -- no member passed is counted
 abbrev Inv-loop : tie.InvT-loop
@@ -41,7 +41,7 @@ loop-again c =
     let l = n .before .before in
     let a = l .before .before .before .args in
     let none : counted (a .counts .now) (a .members .now) (l .loop .i) ≡ false =
-    rw (← add-one (l .loop .i), ← n .count-at .ensures) (⊎-elim (λ w. rw (← w .1 .ensures, w .2 .left)) (λ w. rw (eq-eqb _ _ (w .left)) (and-false (isMember (a .members .now) _))) (c .if1 .came))
+    rw (← add-one (l .loop .i), ← n .count-at .ensures) (⊎-elim (λ w. rw (← w .1 .ensures, w .2 .left)) (λ w. rw (eq-eqb _ _ (w .left)) (and-false (tickAt (a .members .now) _))) (c .if1 .came))
     in
     (omega arith, below-more _ _ (l .loop .inv .1) none)
 

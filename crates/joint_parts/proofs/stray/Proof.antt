@@ -6,14 +6,14 @@ use lib.Dec.{eqb}
 use lib.ListN.{getD}
 use borrow.Author.Needs.{needs}
 use borrow.Author.Tests.{eq-eqb, ne-eqb}
-use Rattle.members.specs.Members.{isMember}
+use Rattle.lists.specs.Ticks.{tickAt}
 use Rattle.joint_parts.specs.Joint.{stray}
 use Rattle.joint_parts.proofs.stray.Statement.{statement}
 use Rattle.joint_parts.proofs.stray.Tie as tie
 
 -- the second test asks for the entry's own region
-own : (c : tie.After-is-member) → let a = c .before .before .before .before .before .before .args in c .is-member .result ≡ isMember (a .members .now) (suc (a .e))
-own c = c .is-member .ensures ∙ ap (isMember (c .before .before .before .before .before .before .args .members .now)) (omega arith)
+own : (c : tie.After-is-member) → let a = c .before .before .before .before .before .before .args in c .is-member .result ≡ tickAt (a .members .now) (suc (a .e))
+own c = c .is-member .ensures ∙ ap (tickAt (c .before .before .before .before .before .before .args .members .now)) (omega arith)
 
 returns : tie.Need-returns
 unfolding stray
@@ -33,7 +33,7 @@ returns-2 : tie.Need-returns-2
 unfolding stray
 returns-2 c =
     let a = c .before .before .before .before .before .before .before .args in
-    rw (← own (c .before), c .if2 .taken) (member (eqb (getD (a .names .now) (a .e) 0) 0) (isMember (a .members .now) (getD (a .parents .now) (a .e) 0)))
+    rw (← own (c .before), c .if2 .taken) (member (eqb (getD (a .names .now) (a .e) 0) 0) (tickAt (a .members .now) (getD (a .parents .now) (a .e) 0)))
 
 returns-3 : tie.Need-returns-3
 unfolding stray

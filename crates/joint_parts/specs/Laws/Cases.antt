@@ -15,7 +15,7 @@ use Rattle.pages.specs.declared.Pages.{Pages}
 use Rattle.pages.specs.Pages.{pagesWith, ownerAt, takenAt, ownerIn}
 use Rattle.objects.specs.Objects.{walk, headersTo, freeWords, freeWordsOn, outOf}
 use Rattle.outcomes.specs.Store.{targetsIn, ledAmongIn}
-use Rattle.members.specs.Members.{isMember}
+use Rattle.lists.specs.Ticks.{tickAt}
 use Rattle.joint_parts.specs.Joint.{stillCounted, outFrom, zeroed, freedTo, heldBy, namesLeft}
 
 -- Regions 1 to 4 at the tags 1 to 4; region 4 is below region 2. The last of the five pages is region 2's too.
@@ -46,7 +46,7 @@ led = ledAmongIn 3 1 (1 ∷ 1 ∷ 2 ∷ []) ((65 ∷ replicate 7 0) ++ (1 ∷ re
 -- the owners once their pages are free, and how many these were; the names left
 abbrev reads : List ℕ → List (List ℕ)
 reads marks =
-    let m : ℕ → Bool = isMember marks in
+    let m : ℕ → Bool = tickAt marks in
     let cs = leavings counts (outFrom kinds heap pages m 5) in
     (bit (closedIn names parents m) ∷ bit (led m) ∷ bit (stillCounted cs m) ∷ heldBy (pages .owners) m 5 ∷ []) ∷ cs ∷ freedTo (pages .owners) m 5 ∷ namesLeft names m 64 ∷ []
 
@@ -63,5 +63,5 @@ cases =
     ∷ []
 
 pub computed : every (λ p. equal (equal eqb) (reads (p .0)) (p .1)) cases ≡ true
-unfolding sizeIn sizeOf markAt closedIn stepped steps ownerAt takenAt ownerIn walk headersTo freeWords freeWordsOn outOf targetsIn ledAmongIn isMember stillCounted outFrom zeroed freedTo heldBy namesLeft
+unfolding sizeIn sizeOf markAt closedIn stepped steps ownerAt takenAt ownerIn walk headersTo freeWords freeWordsOn outOf targetsIn ledAmongIn tickAt stillCounted outFrom zeroed freedTo heldBy namesLeft
 computed = refl

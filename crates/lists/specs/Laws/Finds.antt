@@ -8,11 +8,11 @@ use native.Mathlib.Nat.{le-of-suc-le-suc, not-suc-le-zero}
 use native.Mathlib.Omega.{arith}
 use lib.Dec.{eqb, ltb}
 use lib.ListN.{length, getD}
-use borrow.Author.Tests.{eqb-true, ltb-true, ltb-false, lt-ltb}
+use borrow.Author.Tests.{eqb-true, ne-eqb, ltb-true, ltb-false, lt-ltb}
 use Rattle.lists.specs.Lists.{bit, pick, anyOf, every, keep, findOr, sumOf, countOf, times, All, joined}
 use Rattle.lists.specs.Laws.Tests.{neither, both, by-test, bit-zero, pick-same}
 use Rattle.lists.specs.Laws.All.{all-map, all-in}
-use Rattle.lists.specs.Laws.Sums.{sum-keep, sum-map, sum-pick, sum-plus, sum-zero}
+use Rattle.lists.specs.Laws.Sums.{sum-keep, sum-map, sum-pick, sum-plus, sum-swap, sum-zero}
 
 module _ {A : Type 0} where
   pub any-append : (f : A → Bool) (l r : List A) → anyOf f (l ++ r) ≡ (anyOf f l || anyOf f r)
@@ -136,6 +136,33 @@ module _ {A : Type 0} where
   any-same f g [] h = refl
   any-same f g (x ∷ xs) h = ap₂ _||_ (h .0) (any-same f g xs (h .1))
 
+  -- one of two tests
+  pub any-either : (f g : A → Bool) (l : List A) → anyOf (λ x. f x || g x) l ≡ (anyOf f l || anyOf g l)
+  any-either f g [] = refl
+  any-either f g (x ∷ xs) = rw (any-either f g xs) (go (f x) (g x) (anyOf f xs))
+    where
+      go : (a b c : Bool) → ((a || b) || (c || anyOf g xs)) ≡ ((a || c) || (b || anyOf g xs))
+      go true b c = refl
+      go false true true = refl
+      go false true false = refl
+      go false false c = refl
+
+  -- all are 0 where their sum is, and all pass where as many as none does not
+  pub every-zero : (f : A → ℕ) (l : List A) → every (λ x. eqb (f x) 0) l ≡ eqb (sumOf f l) 0
+  every-zero f [] = refl
+  every-zero f (x ∷ xs) = rw (every-zero f xs) (go (f x) (sumOf f xs))
+    where
+      go : (a b : ℕ) → (eqb a 0 && eqb b 0) ≡ eqb (a + b) 0
+      go zero b = let e : b ≡ 0 + b = omega arith in ap (λ n. eqb n 0) e
+      go (suc a) b = rw (ne-eqb (suc a) 0 (λ e. omega arith), ne-eqb (suc a + b) 0 (λ e. omega arith))
+
+  pub every-count : (f : A → Bool) (l : List A) → every f l ≡ eqb (countOf (λ x. not (f x)) l) 0
+  every-count f l = ap (λ g. every g l) (fun-ext (λ x. go (f x))) ∙ every-zero (λ x. bit (not (f x))) l
+    where
+      go : (b : Bool) → b ≡ eqb (bit (not b)) 0
+      go true = refl
+      go false = refl
+
   -- an element that passes
   pub any-in : (f : A → Bool) (l : List A) (i : ℕ) (d : A) → i < length l → f (getD l i d) ≡ true → anyOf f l ≡ true
   any-in f l i d h e = by-test (anyOf f l) (λ t. t) (λ t. absurd (true≢false (sym e ∙ all-in (λ x. f x ≡ false) l i d (any-false f l t) h)))
@@ -199,6 +226,12 @@ module _ {A B : Type 0} where
   pub any-map : (f : B → Bool) (g : A → B) (l : List A) → anyOf f (map g l) ≡ anyOf (λ x. f (g x)) l
   any-map f g [] = refl
   any-map f g (x ∷ xs) = ap (λ b. f (g x) || b) (any-map f g xs)
+
+  pub any-swap : (f : A → B → Bool) (xs : List A) (ys : List B) → anyOf (λ x. anyOf (f x) ys) xs ≡ anyOf (λ y. anyOf (λ x. f x y) xs) ys
+  any-swap f xs ys =
+      ap (λ g. anyOf g xs) (fun-ext (λ x. any-count (f x) ys)) ∙ any-sum (λ x. countOf (f x) ys) xs
+      ∙ ap (ltb 0) (sum-swap (λ x y. bit (f x y)) xs ys)
+      ∙ sym (ap (λ g. anyOf g ys) (fun-ext (λ y. any-count (λ x. f x y) xs)) ∙ any-sum (λ y. countOf (λ x. f x y) xs) ys)
 
   pub any-joined : (f : B → Bool) (g : A → List B) (l : List A) → anyOf f (joined g l) ≡ anyOf (λ x. anyOf f (g x)) l
   any-joined f g [] = refl

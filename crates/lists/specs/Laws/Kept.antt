@@ -2,19 +2,19 @@
 -- Assumes nothing.
 use mathlib.Core.Path.{_≡_, refl, sym, ap, ap₂, _∙_, subst, fun-ext}
 use mathlib.Core.Logic.{_≢_}
-use mathlib.Core.Bool.{Bool, true, false, _||_, or-false, false≢true}
+use mathlib.Core.Bool.{Bool, true, false, _&&_, _||_, or-false, false≢true}
 use mathlib.Core.List.{List, [], _∷_, _++_, map}
 use Prim.Native.Nat.{ℕ, zero, suc, _+_, _≤_, _<_, min}
 use native.Mathlib.Omega.{arith}
 use lib.Dec.{eqb, leb}
 use lib.ListN.{length, getD}
-use borrow.Author.Tests.{leb-true, leb-false, ltb-false, eqb-true, eq-eqb, ne-eqb}
+use borrow.Author.Tests.{leb-true, leb-false, ltb-false, eqb-true, eqb-false, eq-eqb, ne-eqb}
 use Rattle.lists.specs.Lists.{bit, pick, anyOf, keep, findOr, sumOf, All, All₂, joined, from, upTo, times, among, repeats}
 use Rattle.lists.specs.Laws.Tests.{by-test, neither, or-right, eqb-sym}
-use Rattle.lists.specs.Laws.All.{all-map, all-append}
-use Rattle.lists.specs.Laws.Finds.{all-keep, any-count, map-append}
-use Rattle.lists.specs.Laws.Sums.{sum-pick, sum-swap, length-keep, count-most}
-use Rattle.lists.specs.Laws.UpTo.{all-upTo, upTo-all, length-upTo, sum-suc, sum-change}
+use Rattle.lists.specs.Laws.All.{all-map, all-in, all-append, all-change}
+use Rattle.lists.specs.Laws.Finds.{all-keep, any-count, any-false, map-append}
+use Rattle.lists.specs.Laws.Sums.{sum-pick, sum-map, sum-same, sum-swap, length-keep, count-most}
+use Rattle.lists.specs.Laws.UpTo.{all-upTo, upTo-all, any-one, none-any, length-upTo, sum-suc, sum-change}
 
 module _ {A B : Type 0} where
   pub map-same : (f g : A → B) (l : List A) → All (λ x. f x ≡ g x) l → map f l ≡ map g l
@@ -117,6 +117,33 @@ repeats-once (x ∷ xs) e q =
     (λ t. rw (t, ← eqb-true x q t) (omega (arith, ltb-false 0 (times x xs) (sym (any-count (λ y. eqb y x) xs) ∙ d .0))))
     (λ t. rw t (omega (arith, repeats-once xs (d .1) q)))
 
+pub once-repeats : (l : List ℕ) → ((q : ℕ) → times q l ≤ 1) → repeats l ≡ false
+once-repeats [] h = refl
+once-repeats (x ∷ xs) h =
+    let none : times x xs ≡ 0 = zero (eqb x x) (eq-eqb x x refl) (h x) in
+    rw (any-count (λ y. eqb y x) xs, none) (once-repeats xs (λ q. less (eqb x q) (times q xs) (h q)))
+  where
+    zero : (b : Bool) → b ≡ true → bit b + times x xs ≤ 1 → times x xs ≡ 0
+    zero true e k = omega arith
+    zero false e k = absurd (false≢true e)
+
+    less : (b : Bool) (n : ℕ) → bit b + n ≤ 1 → n ≤ 1
+    less b n k = omega arith
+
+-- f of each number of such a list, where `back` tells the number from it
+pub map-once : (f back : ℕ → ℕ) (l : List ℕ) → All (λ n. back (f n) ≡ n) l → ((n : ℕ) → times n l ≤ 1) → (t : ℕ) → times t (map f l) ≤ 1
+map-once f back l told once t = by-test (among t (map f l))
+    (all-among (λ t. times t (map f l) ≤ 1) (map f l) (all-change (λ n. back (f n) ≡ n) (λ t. times t (map f l) ≤ 1) f own l told) t)
+    (λ e. omega (arith, ltb-false 0 (times t (map f l)) (sym (any-count (λ x. eqb x t) (map f l)) ∙ e)))
+  where
+    apart : (m n : ℕ) → back (f m) ≡ m → back (f n) ≡ n → eqb (f m) (f n) ≡ eqb m n
+    apart m n p q = by-test (eqb m n)
+        (λ e. rw (eqb-true m n e, eq-eqb (f n) (f n) refl, eq-eqb n n refl))
+        (λ e. rw e (ne-eqb (f m) (f n) (λ d. eqb-false m n e (sym p ∙ ap back d ∙ q))))
+
+    own : (n : ℕ) → back (f n) ≡ n → times (f n) (map f l) ≤ 1
+    own n p = rw (sum-map (λ t. bit (eqb t (f n))) f l ∙ sum-same _ (λ m. bit (eqb m n)) l (all-map (λ m q. ap bit (apart m n q p)) l told)) (once n)
+
 module _ {A : Type 0} where
   -- what holds of all elements, for each number that passes, is what each element has for all of them
   pub all-each-of : (C : ℕ → Type 0) (P : ℕ → A → Type 0) (l : List A) → ((q : ℕ) → C q → All (P q) l) → All (λ x. (q : ℕ) → C q → P q x) l
@@ -147,6 +174,14 @@ module _ {A : Type 0} where
       go : (b : Bool) → g x ≡ b → All P (pick b (x ∷ keep g xs) (keep g xs)) → (All P (keep g xs) → All (λ x. g x ≡ true → P x) xs) → (g x ≡ true → P x) × All (λ x. g x ≡ true → P x) xs
       go true q h ih = (λ e. h .0, ih (h .1))
       go false q h ih = (λ e. absurd (false≢true (sym q ∙ e)), ih h)
+
+-- a number below n that stands in a list passes where one of the list does
+pub any-members : (f : ℕ → Bool) (n : ℕ) (l : List ℕ) → All (λ i. i < n) l → anyOf (λ i. among i l && f i) (upTo n) ≡ anyOf f l
+any-members f n l h = by-test (anyOf f l)
+    (λ e.
+    let t = any-index f l 0 e in
+    rw e (any-one (λ i. among i l && f i) n (getD l (t .0) 0) (all-in (λ i. i < n) l (t .0) 0 h (t .1)) (rw (all-in (λ i. among i l ≡ true) l (t .0) 0 (among-self l) (t .1)) (t .2))))
+    (λ e. rw e (none-any (λ i. among i l && f i) n (λ i k. by-test (among i l) (λ t. rw (t, all-among (λ i. f i ≡ false) l (any-false f l e) i t)) (λ t. rw t))))
 
 -- the numbers below n that pass
 pub kept-most : (g : ℕ → Bool) (n : ℕ) → length (keep g (upTo n)) ≤ n

@@ -1,10 +1,10 @@
 use borrow.Author.Needs.{needs}
-use Rattle.members.specs.Members.{isMember}
+use Rattle.lists.specs.Ticks.{tickAt}
 use Rattle.members.proofs.is_member.Statement.{statement}
 use Rattle.members.proofs.is_member.Tie as tie
 
 returns : tie.Need-returns
-unfolding isMember
+unfolding tickAt
 returns c = rw (c .byte .ensures)
 
 pub is-member-spec : {M : Type 1} → statement M

@@ -5,8 +5,9 @@ use Prim.Native.Nat.{_-_, _<_, _≤_}
 use native.Mathlib.Omega.{arith}
 use lib.ListN.{length, getD, drop}
 use borrow.Author.Needs.{needs}
-use Rattle.members.specs.Members.{marking, tagIn}
-use Rattle.members.specs.Laws.Marked.{marking-length}
+use Rattle.lists.specs.Ticks.{ticked}
+use Rattle.members.specs.Members.{tagIn}
+use Rattle.lists.specs.Laws.Ticks.{ticked-length}
 use Rattle.members.proofs.Laws.{none-left, orElse, refused, refused-end, decided, undecided, marks-next}
 use Rattle.members.proofs.mark.Statement.{statement}
 use Rattle.members.proofs.mark.Tie as tie
@@ -14,7 +15,7 @@ use Rattle.members.proofs.mark.Tie as tie
 -- with the names left, the number and the marks are those of the whole list
 abbrev Inv-loop : tie.InvT-loop
 Inv-loop names list members₀ g₀ j₀ members g j =
-    (orElse g (refused names (drop j list)) ≡ refused names list) × (marking members (map (tagIn names) (drop j list)) ≡ marking members₀ (map (tagIn names) list))
+    (orElse g (refused names (drop j list)) ≡ refused names list) × (ticked members (map (tagIn names) (drop j list)) ≡ ticked members₀ (map (tagIn names) list))
 
 abbrev μ-loop : tie.MeasureT-loop
 μ-loop names list members₀ g₀ j₀ members g j = length list - j
@@ -50,10 +51,10 @@ loop-again c =
     )
 
 same-length : tie.Need-same-length Inv-loop μ-loop
-same-length c = let l = c .before in sym (marking-length (l .loop .members) _) ∙ ap length (l .loop .inv .1) ∙ marking-length (l .before .before .before .before .args .members .now) _
+same-length c = let l = c .before in sym (ticked-length (l .loop .members) _) ∙ ap length (l .loop .inv .1) ∙ ticked-length (l .before .before .before .before .args .members .now) _
 
 returns : tie.Need-returns Inv-loop μ-loop
-unfolding marking
+unfolding ticked
 returns c =
     let l = c .before in
     let a = l .before .before .before .before .args in

@@ -1,4 +1,3 @@
-use borrow.Author.Needs.{needs}
 use borrow.Author.Tests.{le-ltb, lt-ltb, eq-eqb, ne-eqb}
 use Rattle.members.specs.Members.{nameRefusal}
 use Rattle.members.proofs.name_refusal.Statement.{statement}

@@ -9,7 +9,8 @@ use lib.ListN.{replicate}
 use Rattle.lists.specs.Lists.{bit, every, equal, from}
 use Rattle.model.specs.Calls.{reason, wrongNames, nameTests}
 use Rattle.regions.specs.Regions.{entryIn}
-use Rattle.members.specs.Members.{marking, tagIn, deadIn}
+use Rattle.lists.specs.Ticks.{ticked}
+use Rattle.members.specs.Members.{tagIn, deadIn}
 
 -- at the tags 1 to 3; 9 is no region's name
 abbrev names : List ℕ
@@ -48,10 +49,10 @@ unfolding nameTests deadIn entryIn
 refused = refl
 
 -- the tags of the names, in whatever order, have a mark, others none; a dead name leaves none
-pub marked : equal eqb (marking (replicate 5 0) (map (tagIn names) (6 ∷ 5 ∷ []))) (0 ∷ 0 ∷ 1 ∷ 1 ∷ 0 ∷ []) ≡ true
-unfolding marking tagIn entryIn
+pub marked : equal eqb (ticked (replicate 5 0) (map (tagIn names) (6 ∷ 5 ∷ []))) (0 ∷ 0 ∷ 1 ∷ 1 ∷ 0 ∷ []) ≡ true
+unfolding ticked tagIn entryIn
 marked = refl
 
-pub unmarked : equal eqb (marking (replicate 65 0) (map (tagIn names) (9 ∷ []))) (replicate 65 0) ≡ true
-unfolding marking tagIn entryIn
+pub unmarked : equal eqb (ticked (replicate 65 0) (map (tagIn names) (9 ∷ []))) (replicate 65 0) ≡ true
+unfolding ticked tagIn entryIn
 unmarked = refl

@@ -9,11 +9,11 @@ use native.Mathlib.Omega.{arith}
 use lib.Dec.{eqb, leb}
 use lib.ListN.{length, getD, set, take, drop, replicate, length-take, drop-of-length-le}
 use lib.Seq.{length-take-le, drop-nil, take-set-le, take-append-le, take-take, take-suc, drop-at}
-use borrow.Author.Tests.{eqb-true, eqb-false, ne-eqb, lt-leb, le-leb}
-use Rattle.lists.specs.Lists.{bit, pick, sumOf, sumOf₂, All, among}
+use borrow.Author.Tests.{eqb-true, eqb-false, eq-eqb, ne-eqb, lt-leb, le-leb}
+use Rattle.lists.specs.Lists.{bit, pick, sumOf, sumOf₂, All, times, among}
 use Rattle.lists.specs.Laws.Tests.{both, by-test, pick-same}
 use Rattle.lists.specs.Laws.All.{all-map, all-take, all₂-map}
-use Rattle.lists.specs.Laws.Sums.{sum-set, sum-append, sum-split, sum-plus, sum-same, sum₂-set, sum₂-same, sum₂-none}
+use Rattle.lists.specs.Laws.Sums.{sum-set, sum-append, sum-split, sum-plus, sum-pick, sum-same, sum₂-set, sum₂-same, sum₂-none}
 use Rattle.lists.specs.Laws.Kept.{sum-members}
 use Rattle.model.specs.Model.{Model, Object, Region, noObject, object, live, homeOf, marks, livesIn, homeIn, topPlace, top, beneath, slot, inSlot, into, freeInto, fromObject, inWords, inFrames, wordPointers, outside, stored, allowed, declare}
 use Rattle.model.specs.Calls.{accepted, withFrames, fillSlot, popFrame, replaced, withWord, writeWord, addRegion, addObject, removeRegions, others, size, null}
@@ -213,3 +213,36 @@ module _ (L : Model) (v : Valid L) (rs : List ℕ) (m : Removable L rs) (r : ℕ
   pub remove-stored : stored (removeRegions L rs) r + fromRegions L rs r ≡ stored L r + inFrames (homeIn L) r (newly L)
   unfolding stored removeRegions newly
   remove-stored = omega (arith, remove-words, frames-split (homeIn L) r (L .counted) (topPlace (L .frames)) (L .frames) (v .frames .mark))
+
+-- ---- the words that lead into r: those of several live regions, but for r, and those of the others
+
+module _ (L : Model) (rs : List ℕ) (ls : All (λ q. livesIn L q ≡ true) rs) (once : (q : ℕ) → times q rs ≤ 1) (r : ℕ) where
+  abbrev pub from : Object → ℕ
+  from = fromObject (livesIn L) (homeIn L) (L .kinds) r
+
+  from-member : (q : ℕ) → livesIn L q ≡ true → sumOf (λ o. pick (eqb (o .home) q) (from o) 0) (L .objects) ≡ pick (eqb q r) 0 (fromRegion L q r)
+  unfolding fromObject fromRegion
+  from-member q l = ap (λ f. sumOf f (L .objects)) (fun-ext each) ∙ sum-pick (not (eqb q r)) (λ o. pick (eqb (o .home) q) (words o) 0) (L .objects) ∙ other (eqb q r) _
+    where
+      words : Object → ℕ
+      words o = sumOf₂ (freeInto (homeIn L) r) (marks (L .kinds) (o .kind)) (o .words)
+
+      each : (o : Object) → pick (eqb (o .home) q) (pick (livesIn L (o .home) && not (eqb (o .home) r)) (words o) 0) 0 ≡ pick (not (eqb q r)) (pick (eqb (o .home) q) (words o) 0) 0
+      each o = by-test (eqb (o .home) q)
+          (λ e. rw (eqb-true (o .home) q e, l, eq-eqb q q refl))
+          (λ e. rw e (sym (pick-same (not (eqb q r)) 0)))
+
+      other : (b : Bool) (n : ℕ) → pick (not b) n 0 ≡ pick b 0 n
+      other true n = refl
+      other false n = refl
+
+  pub words-parted : sumOf (λ o. pick (among (o .home) rs) 0 (from o)) (L .objects) + sumOf (λ q. pick (eqb q r) 0 (fromRegion L q r)) rs ≡ wordPointers L r
+  unfolding inWords
+  words-parted =
+      ap (λ x. sumOf (λ o. pick (among (o .home) rs) 0 (from o)) (L .objects) + x)
+      (sum-same _ _ rs (all-map (λ q l. sym (from-member q l)) rs ls) ∙ sum-members (λ o. o .home) from (L .objects) rs once)
+      ∙ sym (sum-plus _ _ (L .objects)) ∙ ap (λ f. sumOf f (L .objects)) (fun-ext (λ o. go (among (o .home) rs) (from o)))
+    where
+      go : (b : Bool) (n : ℕ) → pick b 0 n + pick b n 0 ≡ n
+      go true n = omega arith
+      go false n = omega arith

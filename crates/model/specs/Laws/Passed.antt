@@ -1,7 +1,7 @@
 -- An accepted call passed each of its tests.
 -- Assumes nothing.
 use mathlib.Core.Path.{_≡_, refl}
-use mathlib.Core.Bool.{Bool, true, false}
+use mathlib.Core.Bool.{Bool, true, false, true≢false, false≢true}
 use mathlib.Core.List.{List, [], _∷_, _++_}
 use Prim.Native.Nat.{ℕ, _<_}
 use native.Mathlib.Omega.{arith}
@@ -26,6 +26,13 @@ all-passed (t ∷ ts) p e =
     let r = one-passed (t .0) (t .1) (reason ts) (ltb-true 0 (t .1) (q .0)) e in
     (r .0, all-passed ts (q .1) (r .1))
 
+-- the first tests agree, and the rest do where the first fails
+pub step : (a b : Bool) (n x y : ℕ) → a ≡ b → (b ≡ false → x ≡ y) → pick a n x ≡ pick b n y
+step true true n x y e h = refl
+step true false n x y e h = absurd (true≢false e)
+step false true n x y e h = absurd (false≢true e)
+step false false n x y e h = h refl
+
 -- the tests of names in turn, with others after them
 pub names-numbers : (f : ℕ → Bool) → f 2 ≡ true → f 3 ≡ true → (gone : ℕ → Bool) (rs : List ℕ) (ts : List (Bool × ℕ)) → every (λ t. f (t .1)) ts ≡ true
     → every (λ t. f (t .1)) (nameTests gone rs ++ ts) ≡ true
@@ -38,6 +45,19 @@ pub names-passed : (gone : ℕ → Bool) (rs : List ℕ) (ts : List (Bool × ℕ
 unfolding nameTests
 names-passed gone [] ts h = (tt, h)
 names-passed gone (r ∷ rs) ts h = let q = names-passed gone rs ts (h .1 .1) in (((h .0, h .1 .0), q .0), q .1)
+
+-- and others, which agree where every name has passed
+pub names-agree : (f g : ℕ → Bool) → ((r : ℕ) → f r ≡ g r) → (rs : List ℕ) (x y : List (Bool × ℕ)) → (All (λ r. (g r ≡ false) × (eqb r 1 ≡ false)) rs → reason x ≡ reason y)
+    → reason (nameTests f rs ++ x) ≡ reason (nameTests g rs ++ y)
+unfolding nameTests
+names-agree f g e [] x y h = h tt
+names-agree f g e (r ∷ rs) x y h = step _ (g r) 2 _ _ (e r) (λ d. step _ (eqb r 1) 3 _ _ refl (λ o. names-agree f g e rs x y (λ ns. h ((d, o), ns))))
+
+-- names that all pass: the tests after them decide
+pub names-go : (gone : ℕ → Bool) (rs : List ℕ) (ts : List (Bool × ℕ)) → All (λ r. (gone r ≡ false) × (eqb r 1 ≡ false)) rs → reason (nameTests gone rs ++ ts) ≡ reason ts
+unfolding nameTests
+names-go gone [] ts h = refl
+names-go gone (r ∷ rs) ts h = rw (h .0 .0, h .0 .1) (names-go gone rs ts (h .1))
 
 numbers : (L : Model) (c : Call) → every positive (checks L c) ≡ true
 unfolding checks

@@ -8,7 +8,7 @@ use native.Mathlib.Omega.{arith}
 use lib.Dec.{eqb, ltb}
 use lib.ListN.{length}
 use borrow.Author.Tests.{eqb-true, eq-eqb, ne-eqb, not-false}
-use Rattle.lists.specs.Lists.{bit, pick, every, sumOf, All, All₂, times, among, repeats}
+use Rattle.lists.specs.Lists.{bit, pick, sumOf, All, All₂, times, among, repeats}
 use Rattle.lists.specs.Laws.Tests.{by-test, neither, or-other, bit-zero}
 use Rattle.lists.specs.Laws.All.{all-map, all₂-map}
 use Rattle.lists.specs.Laws.Sums.{sum-zero, sum₂-zero}

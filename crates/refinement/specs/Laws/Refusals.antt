@@ -1,14 +1,14 @@
 -- A store that represents a valid model refuses a call just where the model does, by the same number.
 -- Assumes nothing.
 use mathlib.Core.Path.{_≡_, refl, sym, ap, ap₂, _∙_}
-use mathlib.Core.Bool.{Bool, true, false, not, _&&_, _||_, true≢false, false≢true}
-use mathlib.Core.List.{List, [], _∷_, _++_}
+use mathlib.Core.Bool.{Bool, true, false, not, _&&_, _||_}
+use mathlib.Core.List.{List}
 use Prim.Native.Nat.{ℕ, zero, suc, _+_, _-_, _≤_}
 use native.Mathlib.Omega.{arith}
 use lib.Dec.{eqb, ltb, leb}
 use lib.ListN.{length, drop}
 use borrow.Author.Tests.{eqb-false, ne-eqb, leb-true, leb-false, ltb-false, le-leb, lt-leb, not-false}
-use Rattle.lists.specs.Lists.{pick, anyOf, every, All, upTo, repeats}
+use Rattle.lists.specs.Lists.{pick, anyOf, every, upTo, repeats}
 use Rattle.lists.specs.Laws.Tests.{by-test, neither, eqb-sym}
 use Rattle.lists.specs.Laws.All.{all-map}
 use Rattle.lists.specs.Laws.Finds.{every-same}
@@ -16,8 +16,9 @@ use Rattle.lists.specs.Laws.Kept.{repeats-once}
 use Rattle.lists.specs.Laws.UpTo.{all-upTo, every-places}
 use Rattle.model.specs.Model.{Model, Call, declare, newRegion, subregion, push, dropFrame, handBack, allocate, first, copy, fetch, clear, load, setPointer, put, get, view, same, about, report, totals, audit, delete, deleteAll}
 use Rattle.model.specs.Model.{region, livesIn, homeIn, parentIn, top, beneath, slot, inSlot, slotMarks, markAt, above, allowed, inFrames, stored, outside, subregions, closed, outsideBut}
-use Rattle.model.specs.Calls.{reason, wrongNames, nameTests, checks, refusal, lacks, noFrame, oneFrame, null, noWord, dead, size, fits}
+use Rattle.model.specs.Calls.{wrongNames, checks, refusal, lacks, noFrame, oneFrame, null, noWord, dead, size, fits}
 use Rattle.model.specs.Valid.{Valid}
+use Rattle.model.specs.Laws.Passed.{step, names-agree}
 use Rattle.model.specs.Laws.Slots.{slot-lives}
 use Rattle.model.specs.Laws.Counts.{outside-stored}
 use Rattle.kinds.specs.Kinds.{sizeOf, markAt as kindMark, wrongMarks, allData as onlyData}
@@ -30,23 +31,9 @@ use Rattle.refinement.specs.Laws.Tags.{live-is, live-count, above-is, su
 use Rattle.refinement.specs.Laws.Together.{closed-is, look-is, either-not, pointed-is}
 use Rattle.refinement.specs.Laws.Reads.{top-width, beneath-width, kind-count, right-length, top-known, slot-is, spot-zero, kind-is, size-is, mark-is, owner-name}
 
--- the first tests agree, and the rest do where the first fails
-step : (a b : Bool) (n x y : ℕ) → a ≡ b → (b ≡ false → x ≡ y) → pick a n x ≡ pick b n y
-step true true n x y e h = refl
-step true false n x y e h = absurd (true≢false e)
-step false true n x y e h = absurd (false≢true e)
-step false false n x y e h = h refl
-
 -- the last tests agree
 end : (a b : Bool) (n : ℕ) → a ≡ b → pick a n 0 ≡ pick b n 0
 end a b n e = step a b n 0 0 e (λ _. refl)
-
--- names in turn, and then other tests, which agree where every name has passed
-names-agree : (f g : ℕ → Bool) → ((r : ℕ) → f r ≡ g r) → (rs : List ℕ) (x y : List (Bool × ℕ)) → (All (λ r. (g r ≡ false) × (eqb r 1 ≡ false)) rs → reason x ≡ reason y)
-    → reason (nameTests f rs ++ x) ≡ reason (nameTests g rs ++ y)
-unfolding nameTests
-names-agree f g e [] x y h = h tt
-names-agree f g e (r ∷ rs) x y h = step _ (g r) 2 _ _ (e r) (λ d. step _ (eqb r 1) 3 _ _ refl (λ o. names-agree f g e rs x y (λ ns. h ((d, o), ns))))
 
 module _ {L : Model} {sp : List ℕ} {ids : ℕ → List ℕ} {S : Store} (v : Valid L) (h : Represents L sp ids S) where
   -- ---- each test

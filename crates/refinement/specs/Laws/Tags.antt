@@ -9,13 +9,13 @@ use native.Mathlib.Numerals.{add-one}
 use native.Mathlib.Omega.{arith}
 use lib.Dec.{eqb, ltb}
 use lib.ListN.{length}
-use borrow.Author.Tests.{eqb-true, eqb-false, eq-eqb, ne-eqb, lt-ltb, ltb-false}
+use borrow.Author.Tests.{eqb-true, eqb-false, eq-eqb, ne-eqb, lt-ltb}
 use Rattle.lists.specs.Lists.{bit, pick, anyOf, sumOf, countOf, All, upTo, times, among}
 use Rattle.lists.specs.Laws.Tests.{by-test, by-same}
 use Rattle.lists.specs.Laws.All.{all-map, all-both, all-change}
-use Rattle.lists.specs.Laws.Sums.{sum-same, sum-map, sum-ones, sum-pick}
+use Rattle.lists.specs.Laws.Sums.{sum-same, sum-ones, sum-pick}
 use Rattle.lists.specs.Laws.Finds.{any-map, any-same, false-any, any-count, find-none, all-find}
-use Rattle.lists.specs.Laws.Kept.{all-each, among-self, all-among}
+use Rattle.lists.specs.Laws.Kept.{all-each, among-self, all-among, map-once}
 use Rattle.lists.specs.Laws.UpTo.{any-one, one-passes, sum-below}
 use Rattle.model.specs.Model.{Model, noRegion, called, region, livesIn, parentIn, subregions, climb, above}
 use Rattle.model.specs.Valid.{Valid}
@@ -117,12 +117,7 @@ module _ {L : Model} {sp : List ℕ} {g : Regions} (a : RegionsAgree L sp g) whe
     zero-tag = any-map (λ t. eqb t 0) (tagOf g) rs ∙ false-any _ rs (all-each _ (λ r. ne-eqb (tagOf g r) 0 (tag-some g r)) rs)
 
     pub tags-once : ((q : ℕ) → times q rs ≤ 1) → (t : ℕ) → times t (map (tagOf g) rs) ≤ 1
-    tags-once once t = by-test (among t (map (tagOf g) rs))
-        (all-among (λ t. times t (map (tagOf g) rs) ≤ 1) (map (tagOf g) rs) (all-change _ _ (tagOf g) own rs ls) t)
-        (λ e. omega (arith, ltb-false 0 (times t (map (tagOf g) rs)) (sym (any-count (λ x. eqb x t) (map (tagOf g) rs)) ∙ e)))
-      where
-        own : (r : ℕ) → livesIn L r ≡ true → times (tagOf g r) (map (tagOf g) rs) ≤ 1
-        own r l = rw (sum-map (λ t. bit (eqb t (tagOf g r))) (tagOf g) rs ∙ sum-same _ (λ q. bit (eqb q r)) rs (all-map (λ q k. ap bit (tag-same q r k l)) rs ls)) (once r)
+    tags-once once = map-once (tagOf g) (nameOf g) rs (all-map tag-name rs ls) once
 
     -- an entry of one of them has its name
     pub name-among : (i : ℕ) → among i (map (entryOf g) rs) ≡ true → among (nameAt g i) rs ≡ true

@@ -1,99 +1,39 @@
 -- Regions that are to go together: a store that represents a valid model tests of them what the model does.
 -- Assumes nothing.
-use mathlib.Core.Path.{_≡_, refl, sym, ap, ap₂, _∙_, fun-ext}
-use mathlib.Core.Bool.{Bool, true, false, not, _&&_, _||_, true≢false}
-use mathlib.Core.List.{List, [], _∷_, map}
+use mathlib.Core.Path.{_≡_, refl, sym, ap, _∙_, fun-ext}
+use mathlib.Core.Bool.{Bool, true, false, not, _||_}
+use mathlib.Core.List.{List, [], map}
 use Prim.Native.Nat.{ℕ, zero, suc, _+_, _<_, _≤_}
 use native.Mathlib.Numerals.{add-one}
 use native.Mathlib.Omega.{arith}
 use lib.Dec.{eqb, ltb}
-use lib.ListN.{getD, take, drop}
+use lib.ListN.{take, drop}
 use borrow.Author.Tests.{eqb-true, eqb-false, eq-eqb, ne-eqb, lt-ltb}
-use Rattle.lists.specs.Lists.{bit, pick, anyOf, every, sumOf, sumOf₂, countOf, keep, All, upTo, times, among}
-use Rattle.lists.specs.Laws.Tests.{by-test, by-same, pick-same, eqb-sym}
+use Rattle.lists.specs.Lists.{bit, pick, anyOf, every, sumOf, All, upTo, times, among}
+use Rattle.lists.specs.Laws.Tests.{by-test, eqb-sym}
 use Rattle.lists.specs.Laws.All.{all-map}
-use Rattle.lists.specs.Laws.Sums.{sum-same, sum-map, sum-joined, sum-pick, sum-plus, sum-swap, sum-split}
-use Rattle.lists.specs.Laws.Finds.{any-map, any-same, any-sum, any-count, false-any, times-keep}
-use Rattle.lists.specs.Laws.Kept.{sum-members}
+use Rattle.lists.specs.Laws.Sums.{sum-same, sum-map, sum-joined, sum-split}
+use Rattle.lists.specs.Laws.Finds.{any-map, any-same, any-sum, any-count, any-swap, any-either, every-count, false-any}
 use Rattle.lists.specs.Laws.UpTo.{sum-below}
-use Rattle.model.specs.Model.{Model, Object, Region, marks, livesIn, homeIn, parentIn, into, freeInto, fromObject, inWords, inFrames, wordPointers, outside, stored, closed, outsideBut}
+use Rattle.model.specs.Model.{Model, livesIn, homeIn, parentIn, into, inFrames, outside, stored, closed, outsideBut}
 use Rattle.model.specs.Valid.{Valid}
 use Rattle.model.specs.Moves.{fromRegion}
 use Rattle.model.specs.Laws.Regions.{found-itself}
-use Rattle.model.specs.Laws.Counts.{outside-stored}
+use Rattle.model.specs.Laws.Counts.{outside-stored, words-parted, from}
 use Rattle.regions.specs.declared.Regions.{Regions}
-use Rattle.regions.specs.Regions.{nameAt, entryOf, tagOf, parentAt, countAt, closedIn}
-use Rattle.pages.specs.Pages.{ownerIn}
+use Rattle.regions.specs.Regions.{nameAt, entryOf, tagOf, parentAt, closedIn}
 use Rattle.objects.specs.Objects.{freeWordsOf, outOf}
+use Rattle.objects.specs.Laws.Leaving.{out-own}
 use Rattle.outcomes.specs.Store.{Store, frames, kinds, regions, pages, targetsIn, slotTargets, uncountedIn, slotsBeyondIn, slotsBeyond, ledIn, ledInto, ledAmongIn, ledAmong}
 use Rattle.outcomes.specs.Outcome.{outgoing, countBut}
 use Rattle.refinement.specs.Represents.{tagFor, RegionsAgree, Represents}
-use Rattle.refinement.specs.Laws.Tags.{Named, live-named, tag-for, tag-among, zero-tag, entry-live, entry-own, parent-known}
+use Rattle.refinement.specs.Laws.Tags.{Named, live-named, tag-among, zero-tag, entry-live, entry-own, parent-known}
 use Rattle.refinement.specs.Laws.Counts.{count-is, slots-beyond}
 use Rattle.refinement.specs.Laws.Delete.{gone-one}
 
-module _ {A B : Type 0} where
-  any-swap : (f : A → B → Bool) (xs : List A) (ys : List B) → anyOf (λ x. anyOf (f x) ys) xs ≡ anyOf (λ y. anyOf (λ x. f x y) xs) ys
-  any-swap f xs ys =
-      ap (λ g. anyOf g xs) (fun-ext (λ x. any-count (f x) ys)) ∙ any-sum (λ x. countOf (f x) ys) xs
-      ∙ ap (ltb 0) (sum-swap (λ x y. bit (f x y)) xs ys)
-      ∙ sym (ap (λ g. anyOf g ys) (fun-ext (λ y. any-count (λ x. f x y) xs)) ∙ any-sum (λ y. countOf (λ x. f x y) xs) ys)
-
-module _ {A : Type 0} where
-  any-either : (f g : A → Bool) (l : List A) → anyOf (λ x. f x || g x) l ≡ (anyOf f l || anyOf g l)
-  any-either f g [] = refl
-  any-either f g (x ∷ xs) = rw (any-either f g xs) (go (f x) (g x) (anyOf f xs))
-    where
-      go : (a b c : Bool) → ((a || b) || (c || anyOf g xs)) ≡ ((a || c) || (b || anyOf g xs))
-      go true b c = refl
-      go false true true = refl
-      go false true false = refl
-      go false false c = refl
-
-  pub every-count : (f : A → Bool) (l : List A) → every f l ≡ eqb (countOf (λ x. not (f x)) l) 0
-  every-count f [] = refl
-  every-count f (x ∷ xs) = go (f x) (every-count f xs)
-    where
-      go : (b : Bool) → every f xs ≡ eqb (countOf (λ x. not (f x)) xs) 0 → (b && every f xs) ≡ eqb (bit (not b) + countOf (λ x. not (f x)) xs) 0
-      go true e = let z : 0 + countOf (λ x. not (f x)) xs ≡ countOf (λ x. not (f x)) xs = omega arith in rw (e, z)
-      go false e = sym (ne-eqb (1 + countOf (λ x. not (f x)) xs) 0 (λ z. omega arith))
-
--- ---- the words that lead into r: those of several live regions, but for r, and those of the others
-
-module _ (L : Model) (rs : List ℕ) (ls : All (λ q. livesIn L q ≡ true) rs) (once : (q : ℕ) → times q rs ≤ 1) (r : ℕ) where
-  abbrev from : Object → ℕ
-  from = fromObject (livesIn L) (homeIn L) (L .kinds) r
-
-  from-member : (q : ℕ) → livesIn L q ≡ true → sumOf (λ o. pick (eqb (o .home) q) (from o) 0) (L .objects) ≡ pick (eqb q r) 0 (fromRegion L q r)
-  unfolding fromObject fromRegion
-  from-member q l = ap (λ f. sumOf f (L .objects)) (fun-ext each) ∙ sum-pick (not (eqb q r)) (λ o. pick (eqb (o .home) q) (words o) 0) (L .objects) ∙ other (eqb q r) _
-    where
-      words : Object → ℕ
-      words o = sumOf₂ (freeInto (homeIn L) r) (marks (L .kinds) (o .kind)) (o .words)
-
-      each : (o : Object) → pick (eqb (o .home) q) (pick (livesIn L (o .home) && not (eqb (o .home) r)) (words o) 0) 0 ≡ pick (not (eqb q r)) (pick (eqb (o .home) q) (words o) 0) 0
-      each o = by-test (eqb (o .home) q)
-          (λ e. rw (eqb-true (o .home) q e, l, eq-eqb q q refl))
-          (λ e. rw e (sym (pick-same (not (eqb q r)) 0)))
-
-      other : (b : Bool) (n : ℕ) → pick (not b) n 0 ≡ pick b 0 n
-      other true n = refl
-      other false n = refl
-
-  words-parted : sumOf (λ o. pick (among (o .home) rs) 0 (from o)) (L .objects) + sumOf (λ q. pick (eqb q r) 0 (fromRegion L q r)) rs ≡ wordPointers L r
-  unfolding inWords
-  words-parted =
-      ap (λ x. sumOf (λ o. pick (among (o .home) rs) 0 (from o)) (L .objects) + x)
-      (sum-same _ _ rs (all-map (λ q l. sym (from-member q l)) rs ls) ∙ sum-members (λ o. o .home) from (L .objects) rs once)
-      ∙ sym (sum-plus _ _ (L .objects)) ∙ ap (λ f. sumOf f (L .objects)) (fun-ext (λ o. go (among (o .home) rs) (from o)))
-    where
-      go : (b : Bool) (n : ℕ) → pick b 0 n + pick b n 0 ≡ n
-      go true n = omega arith
-      go false n = omega arith
-
 -- ---- the look over the uncounted frames, of any memory: once for all members, it finds what it finds for one of them
 
-led-each : (S : Store) (ts : List ℕ) → ledAmong S ts ≡ anyOf (ledInto S) ts
+pub led-each : (S : Store) (ts : List ℕ) → ledAmong S ts ≡ anyOf (ledInto S) ts
 unfolding ledAmong ledAmongIn ledInto ledIn
 led-each S ts =
     let f = frames S in
@@ -168,7 +108,7 @@ module _ {L : Model} {sp : List ℕ} {ids : ℕ → List ℕ} {S : Store} (v : V
 
     -- the words of members that are in the count of r
     gone-members : (r : ℕ) → livesIn L r ≡ true → times (tagOf (regions S) r) (outgoing S ts) ≡ sumOf (λ q. pick (eqb q r) 0 (fromRegion L q r)) rs
-    unfolding outgoing outOf
+    unfolding outgoing
     gone-members r l =
         sum-joined (λ t. bit (eqb t (tagOf (regions S) r))) _ ts
         ∙ sum-map _ (tagOf (regions S)) rs
@@ -176,7 +116,7 @@ module _ {L : Model} {sp : List ℕ} {ids : ℕ → List ℕ} {S : Store} (v : V
       where
         one : (q : ℕ) → livesIn L q ≡ true → times (tagOf (regions S) r) (outOf ((pages S) .owners) (tagOf (regions S) q) (freeWordsOf (kinds S) (S .heap) (pages S) (tagOf (regions S) q))) ≡ pick (eqb q r) 0 (fromRegion L q r)
         one q k = by-test (eqb q r)
-            (λ e. rw (eqb-true q r e, eq-eqb r r refl, times-keep (tagOf (regions S) r) (λ x. not (eqb x (tagOf (regions S) r))) (map (ownerIn ((pages S) .owners)) (freeWordsOf (kinds S) (S .heap) (pages S) (tagOf (regions S) r))), eq-eqb (tagOf (regions S) r) (tagOf (regions S) r) refl))
+            (λ e. rw (eqb-true q r e, eq-eqb r r refl, out-own ((pages S) .owners) (tagOf (regions S) r) (freeWordsOf (kinds S) (S .heap) (pages S) (tagOf (regions S) r))))
             (λ e. rw e (gone-one S v h r l q k e))
 
     -- what is left of a count, with what the look finds, is what leads there from outside

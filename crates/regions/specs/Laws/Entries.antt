@@ -10,7 +10,8 @@ use lib.Dec.{eqb}
 use lib.ListN.{length, getD}
 use borrow.Author.Tests.{eqb-true, ne-eqb, lt-ltb}
 use Rattle.lists.specs.Lists.{bit, pick, anyOf, findOr, countOf, upTo}
-use Rattle.lists.specs.Laws.Finds.{any-count, all-find}
+use Rattle.lists.specs.Laws.Tests.{by-test}
+use Rattle.lists.specs.Laws.Finds.{any-count, all-find, find-none}
 use Rattle.lists.specs.Laws.UpTo.{length-upTo, find-found, all-upTo}
 use Rattle.regions.specs.declared.Regions.{Regions}
 use Rattle.regions.specs.Regions.{nameAt, nameOf, entryOf, liveCount, unused, entryIn, liveIn, nameIn, unusedIn, upIn, levelIn}
@@ -61,6 +62,17 @@ pub entry-found : (r : Regions) (n : ℕ) → n ≢ 0 → anyOf (λ i. eqb (name
 entry-found r n h e =
     let f = find-found (λ i. eqb (nameAt r i) n) 64 64 e in
     rw (entry-find r n h) (f .0, eqb-true (nameAt r (findOr (λ i. eqb (nameAt r i) n) 64 (upTo 64))) n (f .1))
+
+pub entry-named : (names : List ℕ) (n : ℕ) → entryIn names n < 64 → getD names (entryIn names n) 0 ≡ n
+unfolding entryIn
+entry-named names n = go (eqb n 0)
+  where
+    has : ℕ → Bool
+    has i = eqb (getD names i 0) n
+
+    go : (b : Bool) → pick b 64 (findOr has 64 (upTo 64)) < 64 → getD names (pick b 64 (findOr has 64 (upTo 64))) 0 ≡ n
+    go true h = absurd (omega arith)
+    go false h = by-test (anyOf has (upTo 64)) (λ e. eqb-true (getD names (findOr has 64 (upTo 64)) 0) n (find-found has 64 64 e .1)) (λ e. absurd (omega (arith, find-none has 64 (upTo 64) e)))
 
 -- the entries in use and those not in use are all
 pub live-rest : (names : List ℕ) → liveIn names + countOf (λ i. eqb (getD names i 0) 0) (upTo 64) ≡ 64

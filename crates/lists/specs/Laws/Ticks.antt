@@ -9,10 +9,10 @@ use lib.Dec.{eqb}
 use lib.ListN.{length, getD, set, replicate, length-set, length-replicate}
 use lib.Seq.{getD-set-same, getD-set-other}
 use borrow.Author.Tests.{eq-eqb, ne-eqb}
 use Rattle.lists.specs.Lists.{All, among}
+use Rattle.lists.specs.Ticks.{ticked, tickAt}
 use Rattle.lists.specs.Laws.Tests.{by-same}
 use Rattle.lists.specs.Laws.All.{all-map}
-use Rattle.audit_heap.specs.Heap.{ticked, headAt}
 
 pub ticked-append : (l a b : List ℕ) → ticked (ticked l a) b ≡ ticked l (a ++ b)
 unfolding ticked
@@ -24,8 +24,8 @@ unfolding ticked
 ticked-length l [] = refl
 ticked-length l (q ∷ qs) = ticked-length (set l q 1) qs ∙ length-set l q 1
 
-ticked-at : (l qs : List ℕ) (q : ℕ) → All (λ p. p < length l) qs → headAt (ticked l qs) q ≡ (headAt l q || among q qs)
-unfolding ticked headAt
+ticked-at : (l qs : List ℕ) (q : ℕ) → All (λ p. p < length l) qs → tickAt (ticked l qs) q ≡ (tickAt l q || among q qs)
+unfolding ticked tickAt
 ticked-at l [] q h = sym (or-false (eqb (getD l q 0) 1))
 ticked-at l (p ∷ ps) q h = ticked-at (set l p 1) ps q (all-map (λ x k. rw length-set k) ps (h .1)) ∙ go (by-same q p)
   where
@@ -39,6 +39,6 @@ blank-at (suc n) zero = refl
 blank-at (suc n) (suc q) = blank-at n q
 
 -- of n zeros, with places below n ticked
-pub blank-ticked : (n : ℕ) (qs : List ℕ) (q : ℕ) → All (λ p. p < n) qs → headAt (ticked (replicate n 0) qs) q ≡ among q qs
-unfolding headAt
+pub blank-ticked : (n : ℕ) (qs : List ℕ) (q : ℕ) → All (λ p. p < n) qs → tickAt (ticked (replicate n 0) qs) q ≡ among q qs
+unfolding tickAt
 blank-ticked n qs q h = ticked-at (replicate n 0) qs q (all-map (λ p k. rw (length-replicate {A = ℕ} n 0) k) qs h) ∙ rw (blank-at n q)

@@ -1,2 +1,0 @@
--- Laws of ticked places, proved.
-pub mod Ticks
