@@ -1,7 +1,10 @@
 use mathlib.Core.Path.{_≡_, refl}
-use borrow.Author.Needs.{needs}
+use Prim.Native.Nat.{ℕ}
 use lib.ListN.{length}
-use Rattle.frames.specs.Frames.{topFrame, raised}
+use borrow.Author.Needs.{needs}
+use Rattle.frames.specs.declared.Frames.{Frames}
+use Rattle.frames.specs.Frames.{topIn, topFrame, raised}
+use Rattle.outcomes.specs.Outcome.{store}
 use Rattle.calls_delete_all.proofs.Laws.{delete-all-refused, delete-all-pointed, delete-all-effect}
 use Rattle.calls_delete_all.proofs.delete_all.Statement.{statement}
 use Rattle.calls_delete_all.proofs.delete_all.Tie as tie
@@ -26,6 +29,11 @@ marked c = c .before .before .before
 pages-listed : (c : tie.Start) → length (c .args .s .pages .owners) ≡ 256
 pages-listed c = search needs
 
+-- m raised to the frame below the top
+raised-by : (f : Frames) (m : ℕ) → m ≡ topIn (f .standing) → record { standing = f .standing; counted = m; widths = f .widths; slots = f .slots } ≡ raised f
+unfolding raised topFrame
+raised-by f m e = rw e
+
 returns : tie.Need-returns
 returns c = delete-all-refused _ _ _ (c .before .before .before .list-refusal .ensures .0) _ _ (c .before .if1 .taken) (c .refused .ensures) refl
 
@@ -36,11 +44,11 @@ returns-2 c =
     let z = shaped s in
     let i = z .before .before in
     let l = i .before .before in
-    delete-all-pointed _ _ _ (l .list-refusal .ensures .0) (i .if1 .left) _ _ _ (l .list-refusal .ensures .1) (z .counts-shaped .ensures) (s .scan .ensures) (p .pointed .ensures)
+    let a = l .before .before .before .before .before .before .before .before .before .args in
+    delete-all-pointed (store (a .s) (a .heap .now)) (a .list .now) _ (l .list-refusal .ensures .0) (i .if1 .left) _ _ _ (l .list-refusal .ensures .1) (z .counts-shaped .ensures) (s .scan .ensures) (p .pointed .ensures)
     _ _ (c .before .if2 .taken) (c .refused2 .ensures) refl
 
 returns-3 : tie.Need-returns-3
-unfolding raised topFrame
 returns-3 c =
     let t = c .before .before in
     let u = t .before in
@@ -51,9 +59,10 @@ returns-3 c =
     let z = shaped s in
     let i = z .before .before in
     let l = i .before .before in
-    delete-all-effect _ _ _ (l .list-refusal .ensures .0) (i .if1 .left) _ _ _ (l .list-refusal .ensures .1) (z .counts-shaped .ensures) (s .scan .ensures) (p .pointed .ensures)
+    let a = l .before .before .before .before .before .before .before .before .before .args in
+    delete-all-effect (store (a .s) (a .heap .now)) (a .list .now) _ (l .list-refusal .ensures .0) (i .if1 .left) _ _ _ (l .list-refusal .ensures .1) (z .counts-shaped .ensures) (s .scan .ensures) (p .pointed .ensures)
     _ _ _ _ _ _ (e .before .before .before .before .before .before .before .before .before .if2 .left) (c .gives .ensures) (pages-listed (l .before .before .before .before .before .before .before .before .before)) (e .enter-frames .ensures) (b .give-back .ensures .0) (b .give-back .ensures .1) (u .give-up .ensures)
-    (rw (t .top .ensures)) refl refl refl refl
+    (raised-by _ _ (t .top .ensures)) refl refl refl refl
 
 pub delete-all-spec : {M : Type 1} → statement M
 delete-all-spec =
