@@ -2,7 +2,7 @@
 -- Assumes nothing.
 use mathlib.Core.Path.{_≡_, ap, _∙_}
 use mathlib.Core.Logic.{_≢_}
-use mathlib.Core.Bool.{Bool, true, false, _||_}
+use mathlib.Core.Bool.{Bool, true, false}
 use mathlib.Core.List.{List, [], _∷_, map}
 use Prim.Native.Nat.{ℕ, _≤_}
 use native.Mathlib.Omega.{arith}
@@ -35,37 +35,37 @@ abbrev pub regionsWith : Regions → List ℕ → List ℕ → Regions
 regionsWith g names counts = record { given = g .given; names = names; parents = g .parents; levels = g .levels; counts = counts; newest = g .newest; oldest = g .oldest }
 
 module _ (S : Store) (rs : List ℕ) where
-  -- the marks of those named
-  abbrev marks : List ℕ
-  marks = ticked (replicate 65 0) (map (tagBy ((regions S) .names)) rs)
+  -- those named, ticked
+  abbrev ticks : List ℕ
+  ticks = ticked (replicate 65 0) (map (tagBy ((regions S) .names)) rs)
 
   -- g is what a function gave for the first tests
-  module _ (g : ℕ) (asked : g ≡ reason (listTests ((pages S) .made) (length (S .heap)) rs ((regions S) .names) ((regions S) .parents) (tickAt marks))) where
-    named : Live S rs → tickAt marks ≡ (λ t. among t (tags S rs))
+  module _ (g : ℕ) (asked : g ≡ reason (listTests ((pages S) .made) (length (S .heap)) rs ((regions S) .names) ((regions S) .parents) (let f = frames S in ledAmongIn (f .standing) (f .counted) (f .widths) (f .slots) ((pages S) .owners)) (tickAt ticks))) where
+    named : Live S rs → tickAt ticks ≡ (λ t. among t (tags S rs))
     unfolding tagBy tagOf entryOf
     named live = ticked-among (tags S rs) (tags-most (regions S) rs live)
 
     pub delete-all-refused : (a : Answer) (T : Store) → g ≢ 0 → a ≡ refusedBy g → T ≡ S → Outcome (deleteAll rs) S a T
-    delete-all-refused a T z p q = by-refusal (deleteAll rs) S a T g (refused-first S rs (tickAt marks) named g asked z) z p q
+    delete-all-refused a T z p q = by-refusal (deleteAll rs) S a T g (refused-first S rs (tickAt ticks) named g asked z) z p q
 
-    -- and where these accept, ms the marks, cs the counts without the members' words, b whether a pointer is left
-    module _ (z : g ≡ 0) (ms cs : List ℕ) (b : Bool) (marked : g ≡ 0 → ms ≡ marks) (fits : Counts ((regions S) .counts))
+    -- and where these accept, ms the ticks, cs the counts without the members' words, b whether something is left of a member's count
+    module _ (z : g ≡ 0) (ms cs : List ℕ) (b : Bool) (filled : g ≡ 0 → ms ≡ ticks) (fits : Counts ((regions S) .counts))
         (scanned : cs ≡ leavings ((regions S) .counts) (outFrom (kinds S) (S .heap) (pages S) (tickAt ms) (pageCountIn ((pages S) .made))))
-        (looked : let f = frames S in b ≡ (stillCounted cs (tickAt ms) || ledAmongIn (f .standing) (f .counted) (f .widths) (f .slots) ((pages S) .owners) (tickAt ms))) where
+        (looked : b ≡ stillCounted cs (tickAt ms)) where
       live : Live S rs
-      live = passed-live S rs (tickAt marks) named g asked z
+      live = passed-live S rs (tickAt ticks) named g asked z
 
       once : (t : ℕ) → times t (tags S rs) ≤ 1
-      once = passed-once S rs (tickAt marks) named g asked z
+      once = passed-once S rs (tickAt ticks) named g asked z
 
       members : tickAt ms ≡ (λ t. among t (tags S rs))
-      members = ap tickAt (marked z) ∙ named live
+      members = ap tickAt (filled z) ∙ named live
 
       left : b ≡ pointed S rs
       left = looked ∙ rw (scanned, members) (pointed-are S rs live once fits)
 
       second : refusal S (deleteAll rs) ≡ pick b 19 0
-      second = passed-first S rs (tickAt marks) named g asked z ∙ rw left
+      second = passed-first S rs (tickAt ticks) named g asked z ∙ rw left
 
       pub delete-all-pointed : (a : Answer) (T : Store) → b ≡ true → a ≡ refusedBy 19 → T ≡ S → Outcome (deleteAll rs) S a T
       delete-all-pointed a T e p q = by-refusal (deleteAll rs) S a T 19 (second ∙ ap (λ b. pick b 19 0) e) (λ n. omega arith) p q

@@ -2,7 +2,6 @@
 use state::Done;
 use state::State;
 ghost use mathlib.Core.Path.{_≡_};
-ghost use mathlib.Core.Bool.{_||_};
 ghost use mathlib.Core.List.{[], map};
 ghost use Rattle.model.specs.Model.{deleteAll};
 ghost use Rattle.model.specs.Calls.{reason};
@@ -10,19 +9,23 @@ ghost use Rattle.outcomes.specs.Store.{ledAmongIn};
 ghost use Rattle.outcomes.specs.Outcome.{Outcome, answerOf, store};
 ghost use Rattle.lists.specs.Ticks.{tickAt, ticked};
 ghost use Rattle.members.specs.Members.{tagBy};
-ghost use Rattle.joint_parts.specs.Joint.{stillCounted};
 ghost use Rattle.calls_delete_all.specs.DeleteAll.{listTests};
 
-// 21, 22, then 2 and 3 for each name, then 18; and the regions named are marked, where that is 0.
+// 21, 22, then 2 and 3 for each name, then 18, then of 19 what needs no scan: a slot of an uncounted frame. The regions named are ticked, where that is 0.
 fn list_refusal<'a>(
     made: u32,
     words: usize,
     list: &'a [u32],
     names: &'a [u32],
     parents: &'a [u8],
+    standing: u32,
+    counted: u32,
+    widths: &'a [u8],
+    slots: &'a [u32],
+    owners: &'a [u8],
     members: &mut [u8],
 ) -> u32
-    ensures { λ r. ⌜ (r ≡ reason (listTests made words (now (list .entry)) (now (names .entry)) (now (parents .entry)) (tickAt (ticked (now (members .entry)) (map (tagBy (now (names .entry))) (now (list .entry))))))) × (r ≡ 0 → now (members .exit) ≡ ticked (now (members .entry)) (map (tagBy (now (names .entry))) (now (list .entry)))) ⌝ }
+    ensures { λ r. ⌜ (r ≡ reason (listTests made words (now (list .entry)) (now (names .entry)) (now (parents .entry)) (ledAmongIn standing counted (now (widths .entry)) (now (slots .entry)) (now (owners .entry))) (tickAt (ticked (now (members .entry)) (map (tagBy (now (names .entry))) (now (list .entry))))))) × (r ≡ 0 → now (members .exit) ≡ ticked (now (members .entry)) (map (tagBy (now (names .entry))) (now (list .entry)))) ⌝ }
 {
     if pages::wrong_length(made, words) {
         return 21;
@@ -35,18 +38,24 @@ fn list_refusal<'a>(
         return g;
     }
     if joint_parts::closed(names, parents, members) {
-        0
+        if joint_parts::led(standing, counted, widths, slots, owners, members) {
+            19
+        } else {
+            0
+        }
     } else {
         18
     }
 }
 
-// Document 02's call 24: the regions named go together, with their objects and pages, or none of them does. Their words leave a copy of the counts before 19 is asked, so that a
-// refusal has nothing to undo.
+// Call 24 (document 02, card 2): the regions named go together, with their objects and pages, or none of them does. Their words leave a copy of the counts before the rest of 19 is
+// asked, so that a refusal has nothing to undo.
 pub fn delete_all(s: State, heap: &[u32], list: &[u32]) -> Done
     ensures { λ r. ⌜ Outcome (deleteAll (now (list .entry))) (store s (now (heap .entry))) (answerOf (r .reply) []) (store (r .state) (now (heap .entry))) ⌝ }
 {
     let mut t = s;
+    let n = t.frames.standing;
+    let m = t.frames.counted;
     let mut members = [0u8; 65];
     let g = list_refusal(
         t.pages.made,
@@ -54,6 +63,11 @@ pub fn delete_all(s: State, heap: &[u32], list: &[u32]) -> Done
         list,
         &t.regions.names,
         &t.regions.parents,
+        n,
+        m,
+        &t.frames.widths,
+        &t.frames.slots,
+        &t.pages.owners,
         &mut members,
     );
     if g != 0 {
@@ -63,8 +77,6 @@ pub fn delete_all(s: State, heap: &[u32], list: &[u32]) -> Done
         };
     }
     regions::counts_shaped(t.regions);
-    let n = t.frames.standing;
-    let m = t.frames.counted;
     let mut c = t.regions.counts;
     joint_parts::scan(
         t.kinds.declared,
@@ -77,15 +89,7 @@ pub fn delete_all(s: State, heap: &[u32], list: &[u32]) -> Done
         &members,
         &mut c,
     );
-    if pointed(
-        &c,
-        n,
-        m,
-        &t.frames.widths,
-        &t.frames.slots,
-        &t.pages.owners,
-        &members,
-    ) {
+    if joint_parts::still_counted(&c, &members) {
         return Done {
             state: t,
             reply: checks::refused(19),
@@ -99,11 +103,7 @@ pub fn delete_all(s: State, heap: &[u32], list: &[u32]) -> Done
         &t.pages.owners,
         &mut c,
     );
-    let mut o = t.pages.owners;
-    let number = joint_parts::give_back(t.pages.made, &mut o, &members);
-    let mut p = t.pages;
-    p.owners = o;
-    t.pages = p;
+    let number = joint_parts::give_back(t.pages.made, &mut t.pages.owners, &members);
     let mut r = t.regions;
     r.counts = c;
     t.regions = r;
@@ -114,22 +114,4 @@ pub fn delete_all(s: State, heap: &[u32], list: &[u32]) -> Done
         state: t,
         reply: checks::gives(number, 0, 0, 0),
     }
-}
-
-// Whether a pointer from outside leads into a member: one that is still in a count once the members' own words have left, or a slot of an uncounted frame.
-fn pointed<'a>(
-    counts: &'a [u32],
-    standing: u32,
-    counted: u32,
-    widths: &'a [u8],
-    slots: &'a [u32],
-    owners: &'a [u8],
-    members: &'a [u8],
-) -> bool
-    ensures { λ r. ⌜ r ≡ (stillCounted (now (counts .entry)) (tickAt (now (members .entry))) || ledAmongIn standing counted (now (widths .entry)) (now (slots .entry)) (now (owners .entry)) (tickAt (now (members .entry)))) ⌝ }
-{
-    if joint_parts::still_counted(counts, members) {
-        return true;
-    }
-    joint_parts::led(standing, counted, widths, slots, owners, members)
 }

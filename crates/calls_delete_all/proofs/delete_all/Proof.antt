@@ -11,19 +11,22 @@ use Rattle.calls_delete_all.proofs.delete_all.Tie as tie
 
 -- places that were passed
 abbrev frames-entered : tie.After-give-back → tie.After-enter-frames
-frames-entered c = c .before .before .before .before .before
+frames-entered c = c .before .before .before .before
 
-abbrev asked : tie.After-enter-frames → tie.After-pointed
+abbrev asked : tie.After-enter-frames → tie.After-still-counted
 asked c = c .before .before .before .before .before .before .before .before .before .before
 
-abbrev scanned : tie.After-pointed → tie.After-scan
-scanned c = c .before .before .before .before .before .before .before .before .before .before .before
+abbrev scanned : tie.After-still-counted → tie.After-scan
+scanned c = c .before .before .before .before
 
 abbrev shaped : tie.After-scan → tie.After-counts-shaped
 shaped c = c .before .before .before .before .before .before .before .before .before .before .before .before .before
 
-abbrev marked : tie.After-counts-shaped → tie.After-members2
-marked c = c .before .before .before
+abbrev ticked : tie.After-counts-shaped → tie.After-members2
+ticked c = c .before .before .before
+
+abbrev began : tie.After-members2 → tie.Start
+began c = c .before .before .before .before .before .before .before .before .before .before .before .before .before .before .before .before
 
 -- what the types say
 pages-listed : (c : tie.Start) → length (c .args .s .pages .owners) ≡ 256
@@ -42,26 +45,24 @@ returns-2 c =
     let p = c .before .before in
     let s = scanned p in
     let z = shaped s in
-    let i = z .before .before in
-    let l = i .before .before in
-    let a = l .before .before .before .before .before .before .before .before .before .args in
-    delete-all-pointed (store (a .s) (a .heap .now)) (a .list .now) _ (l .list-refusal .ensures .0) (i .if1 .left) _ _ _ (l .list-refusal .ensures .1) (z .counts-shaped .ensures) (s .scan .ensures) (p .pointed .ensures)
-    _ _ (c .before .if2 .taken) (c .refused2 .ensures) refl
+    let l = ticked z in
+    let a = began l .args in
+    delete-all-pointed (store (a .s) (a .heap .now)) (a .list .now) _ (l .before .list-refusal .ensures .0) (z .before .before .if1 .left) _ _ _ (l .before .list-refusal .ensures .1) (z .counts-shaped .ensures) (s .scan .ensures)
+    (p .still-counted .ensures) _ _ (c .before .if2 .taken) (c .refused2 .ensures) refl
 
 returns-3 : tie.Need-returns-3
 returns-3 c =
     let t = c .before .before in
     let u = t .before in
-    let b = u .before .before .before .before .before .before in
+    let b = u .before .before .before .before in
     let e = frames-entered b in
     let p = asked e in
     let s = scanned p in
     let z = shaped s in
-    let i = z .before .before in
-    let l = i .before .before in
-    let a = l .before .before .before .before .before .before .before .before .before .args in
-    delete-all-effect (store (a .s) (a .heap .now)) (a .list .now) _ (l .list-refusal .ensures .0) (i .if1 .left) _ _ _ (l .list-refusal .ensures .1) (z .counts-shaped .ensures) (s .scan .ensures) (p .pointed .ensures)
-    _ _ _ _ _ _ (e .before .before .before .before .before .before .before .before .before .if2 .left) (c .gives .ensures) (pages-listed (l .before .before .before .before .before .before .before .before .before)) (e .enter-frames .ensures) (b .give-back .ensures .0) (b .give-back .ensures .1) (u .give-up .ensures)
+    let l = ticked z in
+    let a = began l .args in
+    delete-all-effect (store (a .s) (a .heap .now)) (a .list .now) _ (l .before .list-refusal .ensures .0) (z .before .before .if1 .left) _ _ _ (l .before .list-refusal .ensures .1) (z .counts-shaped .ensures) (s .scan .ensures)
+    (p .still-counted .ensures) _ _ _ _ _ _ (e .before .before .before .before .before .before .before .before .before .if2 .left) (c .gives .ensures) (pages-listed (began l)) (e .enter-frames .ensures) (b .give-back .ensures .0) (b .give-back .ensures .1) (u .give-up .ensures)
     (raised-by _ _ (t .top .ensures)) refl refl refl refl
 
 pub delete-all-spec : {M : Type 1} → statement M
@@ -83,10 +84,9 @@ delete-all-spec =
     returns-2
     (λ c. search needs)
     (λ c κs. search needs)
-    (λ c. search needs)
-    (λ c. search (needs, marked (shaped (scanned (asked (c .before .before .before .before)))) .members2 .given))
+    (λ c. search (needs, ticked (shaped (scanned (asked (c .before .before .before)))) .members2 .given))
     (λ c κs. search needs)
-    (λ c. search (needs, marked (shaped (scanned (asked (frames-entered (c .before .before .before .before .before))))) .members2 .given))
+    (λ c. search (needs, ticked (shaped (scanned (asked (frames-entered (c .before .before .before))))) .members2 .given))
     (λ c κs. search needs)
     (λ c κs. search needs)
     (λ c κs. search needs)

@@ -37,9 +37,12 @@ module _ (S : Store) (rs : List ℕ) where
   abbrev pub tags : List ℕ
   tags = map (tagOf (regions S)) rs
 
-  -- the tests up to 18, with members by their tags
+  -- the tests that need no scan, with members by their tags
+  abbrev look : (ℕ → Bool) → Bool
+  look = let f = frames S in ledAmongIn (f .standing) (f .counted) (f .widths) (f .slots) ((pages S) .owners)
+
   abbrev pub firsts : (ℕ → Bool) → List (Bool × ℕ)
-  firsts = listTests ((pages S) .made) (length (S .heap)) rs ((regions S) .names) ((regions S) .parents)
+  firsts = listTests ((pages S) .made) (length (S .heap)) rs ((regions S) .names) ((regions S) .parents) look
 
   firsts-numbers : (member : ℕ → Bool) → every positive (firsts member) ≡ true
   unfolding listTests
@@ -60,21 +63,30 @@ module _ (S : Store) (rs : List ℕ) where
   firsts-same : (m n : ℕ → Bool) → (Live → m ≡ n) → reason (firsts m) ≡ reason (firsts n)
   unfolding listTests
   firsts-same m n h =
-      let last : (ℕ → Bool) → List (Bool × ℕ) = λ m. not (closedIn ((regions S) .names) ((regions S) .parents) m) yields 18 ∷ [] in
+      let last : (ℕ → Bool) → List (Bool × ℕ) = λ m. not (closedIn ((regions S) .names) ((regions S) .parents) m) yields 18 ∷ look m yields 19 ∷ [] in
       let gone = deadBy ((regions S) .names) in
       ap (λ n. pick (wrongLengthIn ((pages S) .made) (length (S .heap))) 21 (pick (wrongNames rs) 22 n))
       (names-agree gone gone (λ r. refl) rs (last m) (last n) (λ ns. ap (λ m. reason (last m)) (h (names-live ns))))
 
-  -- something leads into one of them from outside: the call's last test
+  -- something is left of a member's count: the other half of the call's last test
   abbrev pub pointed : Bool
-  pointed = anyOf (λ r. not (eqb (countBut S tags (entryOf (regions S) r)) 0)) rs || ledAmong S tags
+  pointed = anyOf (λ r. not (eqb (countBut S tags (entryOf (regions S) r)) 0)) rs
 
   tests-are : refusal S (deleteAll rs) ≡ firstRefusal (reason (firsts (λ t. among t tags))) (pick pointed 19 0)
-  unfolding refusal checks listTests badLength wrongLength dead isLive entryOf deadBy
+  unfolding refusal checks listTests badLength wrongLength dead isLive entryOf deadBy ledAmong
   tests-are =
       let strays = not (closedIn ((regions S) .names) ((regions S) .parents) (λ t. among t tags)) in
-      ap (λ l. reason (badLength S yields 21 ∷ wrongNames rs yields 22 ∷ l)) (sym (append-assoc (nameTests (dead S) rs) (strays yields 18 ∷ []) (pointed yields 19 ∷ [])))
+      let led = ledAmong S tags in
+      ap (λ n. pick (badLength S) 21 (pick (wrongNames rs) 22 n))
+      (names-agree (dead S) (dead S) (λ r. refl) rs (strays yields 18 ∷ (pointed || led) yields 19 ∷ []) (strays yields 18 ∷ led yields 19 ∷ pointed yields 19 ∷ []) (λ ns. ap (pick strays 18) (halves pointed led)))
+      ∙ ap (λ l. reason (badLength S yields 21 ∷ wrongNames rs yields 22 ∷ l)) (sym (append-assoc (nameTests (dead S) rs) (strays yields 18 ∷ led yields 19 ∷ []) (pointed yields 19 ∷ [])))
       ∙ reason-append (firsts (λ t. among t tags)) (pointed yields 19 ∷ []) (firsts-numbers (λ t. among t tags))
+    where
+      -- 19 by either half
+      halves : (a b : Bool) → pick {A = ℕ} (a || b) 19 0 ≡ pick b 19 (pick a 19 0)
+      halves true true = refl
+      halves true false = refl
+      halves false b = refl
 
   -- g is what the first tests gave, with members that are those named where these live
   module _ (member : ℕ → Bool) (marked : Live → member ≡ (λ t. among t tags)) (g : ℕ) (asked : g ≡ reason (firsts member)) where
@@ -94,12 +106,10 @@ module _ (S : Store) (rs : List ℕ) where
       pub passed-once : (t : ℕ) → times t tags ≤ 1
       passed-once = tags-once (regions S) rs passed-live (firsts-passed member (sym asked ∙ z) .0)
 
-  -- the last test, by the counts that are left without the members' words
+  -- that half, by the counts that are left without the members' words
   pub pointed-are : Live → ((t : ℕ) → times t tags ≤ 1) → Counts ((regions S) .counts)
-      → let f = frames S in
-      let m : ℕ → Bool = λ t. among t tags in
-      (stillCounted (leavings ((regions S) .counts) (outFrom (kinds S) (S .heap) (pages S) m (pageCountIn ((pages S) .made)))) m || ledAmongIn (f .standing) (f .counted) (f .widths) (f .slots) ((pages S) .owners) m) ≡ pointed
-  unfolding countBut ledAmong countAt withCounts
+      → let m : ℕ → Bool = λ t. among t tags in
+      stillCounted (leavings ((regions S) .counts) (outFrom (kinds S) (S .heap) (pages S) m (pageCountIn ((pages S) .made)))) m ≡ pointed
+  unfolding countBut countAt withCounts
   pointed-are live once fits =
-      ap (λ b. b || ledAmong S tags)
-      (still-are (regions S) rs _ live ∙ ap (λ g. anyOf (λ r. not (eqb (countAt g (entryOf (regions S) r)) 0)) rs) (left-are S tags once fits))
+      still-are (regions S) rs _ live ∙ ap (λ g. anyOf (λ r. not (eqb (countAt g (entryOf (regions S) r)) 0)) rs) (left-are S tags once fits)

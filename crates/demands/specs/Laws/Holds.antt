@@ -60,7 +60,10 @@ module _ {L : Model} {sp : List ℕ} {ids : ℕ → List ℕ} {S : Store} {h : H
       (not-true (wrongNames l) (p .0), all-map (λ r e. let q = both (isLive h r) (not (eqb r 1)) e in (ap not (sym (live-is t r) ∙ q .0), not-true (eqb r 1) (q .1))) l (every-true (λ r. isLive h r && not (eqb r 1)) l (p .1)))
 
   pass : (l : List ℕ) → wrongNames l ≡ false → All (λ r. (dead L r ≡ false) × (eqb r 1 ≡ false)) l → namesPass h l ≡ true
-  pass l w ns = rw (w, true-every (λ r. isLive h r && not (eqb r 1)) l (all-map (λ r e. rw (live-is t r, not-false (livesIn L r) (e .0), e .1)) l ns))
+  pass l w ns = rw (w, true-every (λ r. isLive h r && not (eqb r 1)) l (all-map live l ns))
+    where
+      live : (r : ℕ) → (dead L r ≡ false) × (eqb r 1 ≡ false) → (isLive h r && not (eqb r 1)) ≡ true
+      live r e = rw (live-is t r, not-false (livesIn L r) (e .0), e .1)
 
   together : (l : List ℕ) (a : Answer) (T : Store) → Outcome (deleteAll l) S a T
       → (a .refusal ≡ 0) ↔ ((namesPass h l ≡ true) × (history.closed h l ≡ true) × All (λ r. history.outsideBut h S l r ≡ 0) l)
@@ -69,13 +72,13 @@ module _ {L : Model} {sp : List ℕ} {ids : ℕ → List ℕ} {S : Store} {h : H
       let e = refusals (deleteAll l) S a T o .0 ∙ refusals-agree v rep small (deleteAll l) in
       let none : (r : ℕ) → history.outsideBut h S l r ≡ outsideBut L l r = λ r. outside-but-is S t v (rep .onFrames) (rep .onObjects) r l in (
         (λ z.
-        let c = passed L (deleteAll l) (sym e ∙ z) in
-        let q = names-passed (dead L) l _ (c .1) in
-        (pass l (c .0) (q .0), closed-is t l ∙ not-false _ (q .1 .0), all-map (λ r f. none r ∙ eqb-true _ 0 (not-false _ f)) l (any-false _ l (q .1 .1 .0)))),
+            let c = passed L (deleteAll l) (sym e ∙ z) in
+            let q = names-passed (dead L) l _ (c .1) in
+            (pass l (c .0) (q .0), closed-is t l ∙ not-false _ (q .1 .0), all-map (λ r f. none r ∙ eqb-true _ 0 (not-false _ f)) l (any-false _ l (q .1 .1 .0)))),
         (λ z.
-        let p = past l (z .0) in
-        e ∙ rw (p .0) (names-go (dead L) l _ (p .1)
-        ∙ rw (sym (closed-is t l) ∙ z .1, false-any (λ r. not (eqb (outsideBut L l r) 0)) l (all-map (λ r f. ap not (eq-eqb _ 0 (sym (none r) ∙ f))) l (z .2))))),
+            let p = past l (z .0) in
+            e ∙ rw (p .0) (names-go (dead L) l _ (p .1)
+            ∙ rw (sym (closed-is t l) ∙ z .1, false-any (λ r. not (eqb (outsideBut L l r) 0)) l (all-map (λ r f. ap not (eq-eqb _ 0 (sym (none r) ∙ f))) l (z .2))))),
       )
 
   pub holds : Holds h S

@@ -4,7 +4,7 @@ use mathlib.Core.Logic.{⊎-elim}
 use mathlib.Core.List.{List}
 use Prim.Native.Nat.{ℕ, _-_, _≤_}
 use native.Mathlib.Omega.{arith}
-use lib.ListN.{length, getD}
+use lib.ListN.{getD}
 use borrow.Author.Needs.{needs}
 use Rattle.lists.specs.Lists.{upTo}
 use Rattle.lists.specs.Laws.Sums.{count-most}
@@ -12,7 +12,7 @@ use Rattle.lists.specs.Laws.UpTo.{count-next, length-upTo}
 use Rattle.pages.specs.Pages.{pageCountIn}
 use Rattle.lists.specs.Ticks.{tickAt}
 use Rattle.joint_parts.specs.Joint.{freedTo, heldBy}
-use Rattle.joint_parts.specs.Laws.Zeroed.{zeroed-length, zeroed-none, zeroed-later, zeroed-own, zeroed-other}
+use Rattle.joint_parts.specs.Laws.Zeroed.{zeroed-none, zeroed-later, zeroed-own, zeroed-other}
 use Rattle.joint_parts.proofs.give_back.Statement.{statement}
 use Rattle.joint_parts.proofs.give_back.Tie as tie
 
@@ -30,49 +30,45 @@ abbrev μ-loop : tie.MeasureT-loop
 loop-holds : tie.Need-loop-holds Inv-loop μ-loop
 unfolding freedTo heldBy
 loop-holds c =
-    let a = c .before .before .before .args in
+    let a = c .before .before .args in
     (c .page-count .ensures, search needs, zeroed-none (held (a .owners .now) (a .members .now)) (a .owners .now), refl)
 
 -- a page come to has the owner that it had
-own : (c : tie.After-is-member Inv-loop μ-loop) → let l = c .before .before .before .before in let a = l .before .before .before .before .args in c .is-member .result ≡ held (a .owners .now) (a .members .now) (l .loop .j)
+own : (c : tie.After-is-member Inv-loop μ-loop) → let l = c .before .before .before .before .before in let a = l .before .before .before .args in c .is-member .result ≡ held (a .owners .now) (a .members .now) (l .loop .j)
 unfolding freedTo
 own c =
-    let l = c .before .before .before .before in
-    let a = l .before .before .before .before .args in
+    let l = c .before .before .before .before .before in
+    let a = l .before .before .before .args in
     c .is-member .ensures ∙ ap (tickAt (a .members .now)) (c .before .owner-at .ensures ∙ rw (l .loop .inv .2) (zeroed-later (held (a .owners .now) (a .members .now)) (a .owners .now) (l .loop .j)))
 
 add-number : tie.Need-add-number Inv-loop μ-loop
 unfolding heldBy
 add-number c =
-    let l = c .before .before .before .before .before .before .before .before .before in
-    let a = l .before .before .before .before .args in
+    let l = c .before .before .before .before .before .before .before .before in
+    let a = l .before .before .before .args in
     omega (arith, count-most (held (a .owners .now) (a .members .now)) (upTo (l .loop .j)), length-upTo (l .loop .j))
 
 loop-again : tie.Need-loop-again Inv-loop μ-loop
 unfolding freedTo heldBy
 loop-again c =
     let m = c .before in
-    let l = m .before .before .before .before in
-    let a = l .before .before .before .before .args in
+    let l = m .before .before .before .before .before in
+    let a = l .before .before .before .args in
     let j = l .loop .j in
     let f = held (a .owners .now) (a .members .now) in (
       l .loop .inv .0,
       omega arith,
       ⊎-elim
-          (λ w. w .5 ∙ w .2 .ensures ∙ rw (l .loop .inv .2) (zeroed-own f (a .owners .now) j (sym (own m) ∙ w .0 .taken)))
+          (λ w. w .3 ∙ w .2 .ensures ∙ rw (l .loop .inv .2) (zeroed-own f (a .owners .now) j (sym (own m) ∙ w .0 .taken)))
           (λ w. w .1 ∙ l .loop .inv .2 ∙ zeroed-other f (a .owners .now) j (sym (own m) ∙ w .0 .left))
           (c .if1 .came),
       rw (count-next f j, ← own m) (⊎-elim (λ w. rw (w .0 .taken) (omega arith)) (λ w. rw (w .0 .left) (omega arith)) (c .if1 .came)),
     )
 
-same-length : tie.Need-same-length Inv-loop μ-loop
-unfolding freedTo
-same-length c = let l = c .before in ap length (l .loop .inv .2) ∙ zeroed-length _ (l .before .before .before .before .args .owners .now)
-
 returns : tie.Need-returns Inv-loop μ-loop
 returns c =
     let l = c .before in
-    let e : pageCountIn (l .before .before .before .before .args .made) ≡ l .loop .j = omega arith in
+    let e : pageCountIn (l .before .before .before .args .made) ≡ l .loop .j = omega arith in
     (rw e (l .loop .inv .3), rw e (l .loop .inv .2))
 
 pub give-back-spec : {M : Type 1} → statement M
@@ -85,11 +81,9 @@ give-back-spec =
     loop-holds
     (λ c κs. search needs)
     (λ c κs. search needs)
-    (λ c. search needs)
     (λ c κs. search needs)
     add-number
     (λ c. search needs)
     (λ c. search needs)
     loop-again
-    same-length
     returns)
