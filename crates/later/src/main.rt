@@ -7,6 +7,7 @@ use trials::AUDIT;
 use trials::CLEAR;
 use trials::COPY;
 use trials::DELETE;
+use trials::DELETE_ALL;
 use trials::DROP;
 use trials::FETCH;
 use trials::FIRST;
@@ -22,6 +23,7 @@ use trials::SET_POINTER;
 use trials::SUBREGION;
 use trials::TOTALS;
 use trials::VIEW;
+use trials::deletes;
 use trials::made;
 use trials::plays;
 use trials::with_kind;
@@ -368,6 +370,264 @@ fn to_region_1() {
     );
 }
 
+// A grid (region 2) and its drafts (3), which lead to each other and both into region 4, the drafts into region 1 too; no slot leads to either. A second frame stands.
+fn drafts(heap: &mut [u32]) -> State {
+    let s = with_kind(heap, &[1u32, 1, 1]);
+    plays(
+        s,
+        heap,
+        3,
+        19,
+        &[
+            [PUSH, 4, 0, 0],
+            [NEW_REGION, 0, 0, 0],
+            [NEW_REGION, 0, 0, 0],
+            [NEW_REGION, 0, 0, 0],
+            [ALLOCATE, 0, 2, 1],
+            [ALLOCATE, 1, 3, 1],
+            [ALLOCATE, 2, 4, 1],
+            [ALLOCATE, 3, 1, 1],
+            [SET_POINTER, 0, 0, 1],
+            [SET_POINTER, 1, 0, 0],
+            [SET_POINTER, 0, 1, 2],
+            [SET_POINTER, 1, 1, 2],
+            [SET_POINTER, 1, 2, 3],
+            [CLEAR, 0, 0, 0],
+            [CLEAR, 1, 0, 0],
+            [PUSH, 1, 0, 0],
+        ],
+    )
+}
+
+// Neither goes alone, and both go together, with their words and pages (document 02, card 2). Row `gridAndDrafts`.
+fn grid_and_drafts() {
+    let mut heap = [0u32; 256];
+    let s = drafts(&mut heap);
+    plays(
+        s,
+        &mut heap,
+        19,
+        19,
+        &[
+            [REPORT, 2, 0, 0],
+            [REPORT, 4, 0, 0],
+            [REPORT, 1, 0, 0],
+            [DELETE, 2, 0, 0],
+            [DELETE, 3, 0, 0],
+            [DELETE_ALL, 2, 3, 0],
+            [REPORT, 4, 0, 0],
+            [REPORT, 1, 0, 0],
+            [TOTALS, 0, 0, 0],
+            [REPORT, 2, 0, 0],
+            [AUDIT, 0, 0, 0],
+        ],
+    );
+}
+
+// A region in region 2, and one in that: 18 while one of the three is left out, and then 19 while a slot leads there. Row `leftOut`.
+fn left_out() {
+    let mut heap = [0u32; 64];
+    let s = with_kind(&mut heap, &[0u32]);
+    plays(
+        s,
+        &mut heap,
+        3,
+        8,
+        &[
+            [PUSH, 1, 0, 0],
+            [NEW_REGION, 0, 0, 0],
+            [SUBREGION, 2, 0, 0],
+            [SUBREGION, 3, 0, 0],
+            [ALLOCATE, 0, 2, 1],
+            [DELETE_ALL, 2, 0, 0],
+            [DELETE_ALL, 2, 3, 0],
+            [DELETE_ALL, 2, 4, 0],
+            [DELETE_ALL, 4, 2, 3],
+            [CLEAR, 0, 0, 0],
+            [DELETE_ALL, 4, 2, 3],
+            [TOTALS, 0, 0, 0],
+        ],
+    );
+}
+
+// Two regions that lead to each other, and region 1, whose word leads into region 3. Region 4 is empty.
+fn pair(heap: &mut [u32]) -> State {
+    let s = with_kind(heap, &[1u32]);
+    plays(
+        s,
+        heap,
+        3,
+        15,
+        &[
+            [PUSH, 3, 0, 0],
+            [NEW_REGION, 0, 0, 0],
+            [NEW_REGION, 0, 0, 0],
+            [NEW_REGION, 0, 0, 0],
+            [ALLOCATE, 0, 2, 1],
+            [ALLOCATE, 1, 3, 1],
+            [ALLOCATE, 2, 1, 1],
+            [SET_POINTER, 0, 0, 1],
+            [SET_POINTER, 1, 0, 0],
+            [SET_POINTER, 2, 0, 1],
+            [CLEAR, 0, 0, 0],
+            [CLEAR, 1, 0, 0],
+        ],
+    )
+}
+
+// 19 while that word leads there, or a slot, be its frame counted or not. Row `ledFromOutside`.
+fn led_from_outside() {
+    let mut heap = [0u32; 192];
+    let s = pair(&mut heap);
+    plays(
+        s,
+        &mut heap,
+        15,
+        15,
+        &[
+            [DELETE_ALL, 2, 3, 0],
+            [SET_POINTER, 2, 0, 0],
+            [FIRST, 0, 2, 0],
+            [DELETE_ALL, 2, 3, 0],
+            [PUSH, 1, 0, 0],
+            [DELETE, 4, 0, 0],
+            [TOTALS, 0, 0, 0],
+            [REPORT, 2, 0, 0],
+            [DELETE_ALL, 3, 2, 0],
+            [DROP, 0, 0, 0],
+            [CLEAR, 0, 0, 0],
+            [DELETE_ALL, 3, 2, 0],
+            [TOTALS, 0, 0, 0],
+            [AUDIT, 0, 0, 0],
+        ],
+    );
+}
+
+// Regions 2 to 18, one of them, 3, in region 2.
+fn seventeen(heap: &mut [u32]) -> State {
+    let s = made(heap);
+    plays(
+        s,
+        heap,
+        2,
+        19,
+        &[
+            [NEW_REGION, 0, 0, 0],
+            [SUBREGION, 2, 0, 0],
+            [NEW_REGION, 0, 0, 0],
+            [NEW_REGION, 0, 0, 0],
+            [NEW_REGION, 0, 0, 0],
+            [NEW_REGION, 0, 0, 0],
+            [NEW_REGION, 0, 0, 0],
+            [NEW_REGION, 0, 0, 0],
+            [NEW_REGION, 0, 0, 0],
+            [NEW_REGION, 0, 0, 0],
+            [NEW_REGION, 0, 0, 0],
+            [NEW_REGION, 0, 0, 0],
+            [NEW_REGION, 0, 0, 0],
+            [NEW_REGION, 0, 0, 0],
+            [NEW_REGION, 0, 0, 0],
+            [NEW_REGION, 0, 0, 0],
+            [NEW_REGION, 0, 0, 0],
+        ],
+    )
+}
+
+// Lists of names: 22 for none, for one twice and for 17; 2 and 3 name by name, before 18; 16 are accepted. Row `nameLists`.
+fn name_lists() {
+    let mut heap = [0u32; 64];
+    let s = seventeen(&mut heap);
+    let s = plays(
+        s,
+        &mut heap,
+        19,
+        19,
+        &[
+            [DELETE_ALL, 0, 0, 0],
+            [DELETE_ALL, 4, 5, 4],
+            [DELETE_ALL, 99, 99, 0],
+            [DELETE_ALL, 1, 1, 0],
+            [DELETE_ALL, 1, 99, 0],
+            [DELETE_ALL, 99, 1, 0],
+            [DELETE_ALL, 2, 99, 0],
+            [DELETE_ALL, 2, 1, 0],
+            [DELETE_ALL, 2, 4, 0],
+        ],
+    );
+    let names: [u32; 17] = [2, 3, 4, 5, 6, 7, 8, 9, 10, 11, 12, 13, 14, 15, 16, 17, 18];
+    let s = deletes(s, &mut heap, 28, &names);
+    let s = deletes(s, &mut heap, 29, &names[1..17]);
+    plays(s, &mut heap, 30, 30, &[[TOTALS, 0, 0, 0]]);
+}
+
+// m, the last value of totals, where no frame stands and where three do; the slot that is counted then enters its region's count once. Row `mOnce`.
+fn m_once() {
+    let mut heap = [0u32; 64];
+    let s = with_kind(&mut heap, &[0u32]);
+    plays(
+        s,
+        &mut heap,
+        3,
+        7,
+        &[
+            [NEW_REGION, 0, 0, 0],
+            [NEW_REGION, 0, 0, 0],
+            [NEW_REGION, 0, 0, 0],
+            [NEW_REGION, 0, 0, 0],
+            [DELETE_ALL, 2, 3, 0],
+            [TOTALS, 0, 0, 0],
+            [PUSH, 1, 0, 0],
+            [ALLOCATE, 0, 1, 1],
+            [PUSH, 1, 0, 0],
+            [PUSH, 1, 0, 0],
+            [DELETE_ALL, 4, 4, 0],
+            [TOTALS, 0, 0, 0],
+            [DELETE_ALL, 4, 5, 0],
+            [TOTALS, 0, 0, 0],
+            [REPORT, 1, 0, 0],
+            [DROP, 0, 0, 0],
+            [TOTALS, 0, 0, 0],
+        ],
+    );
+}
+
+// All regions but region 1, which lead to each other in a ring: they go once no frame stands and region 1's word is null. Row `allOthers`.
+fn all_others() {
+    let mut heap = [0u32; 256];
+    let s = with_kind(&mut heap, &[1u32]);
+    plays(
+        s,
+        &mut heap,
+        3,
+        15,
+        &[
+            [PUSH, 4, 0, 0],
+            [NEW_REGION, 0, 0, 0],
+            [SUBREGION, 2, 0, 0],
+            [SUBREGION, 1, 0, 0],
+            [ALLOCATE, 0, 1, 1],
+            [ALLOCATE, 1, 2, 1],
+            [ALLOCATE, 2, 3, 1],
+            [ALLOCATE, 3, 4, 1],
+            [SET_POINTER, 0, 0, 1],
+            [SET_POINTER, 1, 0, 2],
+            [SET_POINTER, 2, 0, 3],
+            [SET_POINTER, 3, 0, 1],
+            [DELETE_ALL, 2, 3, 4],
+            [DROP, 0, 0, 0],
+            [DELETE_ALL, 2, 3, 4],
+            [PUSH, 2, 0, 0],
+            [FIRST, 0, 1, 0],
+            [SET_POINTER, 0, 0, 1],
+            [DROP, 0, 0, 0],
+            [DELETE_ALL, 4, 3, 2],
+            [TOTALS, 0, 0, 0],
+            [REPORT, 1, 0, 0],
+            [AUDIT, 0, 0, 0],
+        ],
+    );
+}
+
 fn main() {
     drops();
     lost_room();
@@ -380,4 +640,10 @@ fn main() {
     three_levels();
     sixteen_levels();
     to_region_1();
+    grid_and_drafts();
+    left_out();
+    led_from_outside();
+    name_lists();
+    m_once();
+    all_others();
 }

@@ -3,6 +3,7 @@
 use mathlib.Core.List.{List, [], _∷_, _++_}
 use Prim.Native.Nat.{_*_}
 use lib.ListN.{replicate}
+use Rattle.lists.specs.Lists.{from}
 use Rattle.model.specs.Model.{declare, newRegion, subregion, push, dropFrame, handBack, allocate, first, copy, fetch, clear, load, setPointer, put, get, view, same, about, report, totals, audit, delete, deleteAll}
 use Rattle.model.specs.Sessions.{Row, line}
 
@@ -167,6 +168,93 @@ toRegion1 = record {
   prints = line 8 0 0 1 1 1 ∷ line 9 0 0 0 0 0 ∷ line 10 0 0 1 1 1 ∷ line 11 0 1 0 0 0 ∷ [];
 }
 
+-- ---- Document 02, card 2: regions deleted together
+
+-- A grid (region 2) and its drafts (3) lead to each other, so neither goes alone; both lead into region 4, and the drafts into region 1. They go together, with a page
+-- each: their words leave the counts of the others, and the slots of the first frame, which is counted now, enter them
+abbrev pub gridAndDrafts : Row
+gridAndDrafts = record {
+  lent = 4 * 64;
+  calls =
+      declare (1 ∷ 1 ∷ 1 ∷ []) ∷ push 4 ∷ newRegion ∷ newRegion ∷ newRegion ∷ allocate 0 2 1 ∷ allocate 1 3 1 ∷ allocate 2 4 1 ∷ allocate 3 1 1 ∷ setPointer 0 0 1
+      ∷ setPointer 1 0 0 ∷ setPointer 0 1 2 ∷ setPointer 1 1 2 ∷ setPointer 1 2 3 ∷ clear 0 ∷ clear 1 ∷ push 1 ∷ report 2 ∷ report 4 ∷ report 1 ∷ delete 2 ∷ delete 3
+      ∷ deleteAll (2 ∷ 3 ∷ []) ∷ report 4 ∷ report 1 ∷ totals ∷ report 2 ∷ audit ∷ [];
+  skip = 18;
+  prints =
+      line 19 0 1 1 1 0 ∷ line 20 0 2 3 1 0 ∷ line 21 0 1 2 1 0 ∷ line 22 19 0 0 0 0 ∷ line 23 19 0 0 0 0 ∷ line 24 0 2 0 0 0 ∷ line 25 0 1 1 1 0
+      ∷ line 26 0 1 1 1 0 ∷ line 27 0 2 2 2 1 ∷ line 28 2 0 0 0 0 ∷ line 29 0 1 0 0 0 ∷ [];
+}
+
+-- Region 3 lies in region 2, and 4 in 3: 18 while one of them is left out, also before the slot that leads into region 2, which gives 19 once all are named
+abbrev pub leftOut : Row
+leftOut = record {
+  lent = 64;
+  calls =
+      declare (0 ∷ []) ∷ push 1 ∷ newRegion ∷ subregion 2 ∷ subregion 3 ∷ allocate 0 2 1 ∷ deleteAll (2 ∷ []) ∷ deleteAll (2 ∷ 3 ∷ []) ∷ deleteAll (2 ∷ 4 ∷ [])
+      ∷ deleteAll (4 ∷ 2 ∷ 3 ∷ []) ∷ clear 0 ∷ deleteAll (4 ∷ 2 ∷ 3 ∷ []) ∷ totals ∷ [];
+  skip = 7;
+  prints =
+      line 8 18 0 0 0 0 ∷ line 9 18 0 0 0 0 ∷ line 10 18 0 0 0 0 ∷ line 11 19 0 0 0 0 ∷ line 12 0 0 0 0 0 ∷ line 13 0 1 0 0 0 ∷ line 14 0 1 1 1 0 ∷ [];
+}
+
+-- Regions 2 and 3 lead to each other: 19 while a word of region 1 leads into region 3, while a slot of a frame that is not counted leads into region 2, and while that
+-- frame is counted, which the delete of region 4 brings about; accepted once the slot is null
+abbrev pub ledFromOutside : Row
+ledFromOutside = record {
+  lent = 3 * 64;
+  calls =
+      declare (1 ∷ []) ∷ push 3 ∷ newRegion ∷ newRegion ∷ newRegion ∷ allocate 0 2 1 ∷ allocate 1 3 1 ∷ allocate 2 1 1 ∷ setPointer 0 0 1 ∷ setPointer 1 0 0
+      ∷ setPointer 2 0 1 ∷ clear 0 ∷ clear 1 ∷ deleteAll (2 ∷ 3 ∷ []) ∷ setPointer 2 0 0 ∷ first 0 2 ∷ deleteAll (2 ∷ 3 ∷ []) ∷ push 1 ∷ delete 4 ∷ totals ∷ report 2
+      ∷ deleteAll (3 ∷ 2 ∷ []) ∷ dropFrame ∷ clear 0 ∷ deleteAll (3 ∷ 2 ∷ []) ∷ totals ∷ audit ∷ [];
+  skip = 14;
+  prints =
+      line 15 19 0 0 0 0 ∷ line 16 0 0 0 0 0 ∷ line 17 0 0 0 0 0 ∷ line 18 19 0 0 0 0 ∷ line 19 0 2 0 0 0 ∷ line 20 0 0 0 0 0 ∷ line 21 0 0 3 2 1
+      ∷ line 22 0 2 2 1 0 ∷ line 23 19 0 0 0 0 ∷ line 24 0 1 0 0 0 ∷ line 25 0 0 0 0 0 ∷ line 26 0 2 0 0 0 ∷ line 27 0 2 1 1 0 ∷ line 28 0 1 0 0 0 ∷ [];
+}
+
+-- Lists of names: none, one twice, whether it lives, is dead or is region 1; region 1 and a dead name, in either order; both before the subregion of region 2;
+-- 17 names, all live, and 16
+abbrev pub nameLists : Row
+nameLists = record {
+  lent = 64;
+  calls =
+      newRegion ∷ subregion 2 ∷ replicate 15 newRegion
+      ++ (deleteAll [] ∷ deleteAll (4 ∷ 5 ∷ 4 ∷ []) ∷ deleteAll (99 ∷ 99 ∷ []) ∷ deleteAll (1 ∷ 1 ∷ []) ∷ deleteAll (1 ∷ 99 ∷ []) ∷ deleteAll (99 ∷ 1 ∷ [])
+      ∷ deleteAll (2 ∷ 99 ∷ []) ∷ deleteAll (2 ∷ 1 ∷ []) ∷ deleteAll (2 ∷ 4 ∷ []) ∷ deleteAll (from 2 17) ∷ deleteAll (from 3 16) ∷ totals ∷ []);
+  skip = 18;
+  prints =
+      line 19 22 0 0 0 0 ∷ line 20 22 0 0 0 0 ∷ line 21 22 0 0 0 0 ∷ line 22 22 0 0 0 0 ∷ line 23 3 0 0 0 0 ∷ line 24 2 0 0 0 0 ∷ line 25 2 0 0 0 0
+      ∷ line 26 3 0 0 0 0 ∷ line 27 18 0 0 0 0 ∷ line 28 22 0 0 0 0 ∷ line 29 0 0 0 0 0 ∷ line 30 0 1 2 0 0 ∷ [];
+}
+
+-- m after regions with no page: 0 where no frame stands; with three frames 2, and the slot of the lowest enters its region's count once; a refused list leaves m
+abbrev pub mOnce : Row
+mOnce = record {
+  lent = 64;
+  calls =
+      declare (0 ∷ []) ∷ newRegion ∷ newRegion ∷ newRegion ∷ newRegion ∷ deleteAll (2 ∷ 3 ∷ []) ∷ totals ∷ push 1 ∷ allocate 0 1 1 ∷ push 1 ∷ push 1
+      ∷ deleteAll (4 ∷ 4 ∷ []) ∷ totals ∷ deleteAll (4 ∷ 5 ∷ []) ∷ totals ∷ report 1 ∷ dropFrame ∷ totals ∷ [];
+  skip = 6;
+  prints =
+      line 7 0 0 0 0 0 ∷ line 8 0 1 3 0 0 ∷ line 9 0 1 0 0 0 ∷ line 10 0 0 0 0 0 ∷ line 11 0 2 0 0 0 ∷ line 12 0 3 0 0 0 ∷ line 13 22 0 0 0 0 ∷ line 14 0 0 3 3 0
+      ∷ line 15 0 0 0 0 0 ∷ line 16 0 0 1 3 2 ∷ line 17 0 1 1 1 0 ∷ line 18 0 2 0 0 0 ∷ line 19 0 0 1 2 1 ∷ [];
+}
+
+-- All regions but region 1, which lead to each other in a ring: 19 while a slot leads there, 19 with no frame while region 1's word does, and accepted once it is null
+abbrev pub allOthers : Row
+allOthers = record {
+  lent = 4 * 64;
+  calls =
+      declare (1 ∷ []) ∷ push 4 ∷ newRegion ∷ subregion 2 ∷ subregion 1 ∷ allocate 0 1 1 ∷ allocate 1 2 1 ∷ allocate 2 3 1 ∷ allocate 3 4 1 ∷ setPointer 0 0 1
+      ∷ setPointer 1 0 2 ∷ setPointer 2 0 3 ∷ setPointer 3 0 1 ∷ deleteAll (2 ∷ 3 ∷ 4 ∷ []) ∷ dropFrame ∷ deleteAll (2 ∷ 3 ∷ 4 ∷ []) ∷ push 2 ∷ first 0 1
+      ∷ setPointer 0 0 1 ∷ dropFrame ∷ deleteAll (4 ∷ 3 ∷ 2 ∷ []) ∷ totals ∷ report 1 ∷ audit ∷ [];
+  skip = 14;
+  prints =
+      line 15 19 0 0 0 0 ∷ line 16 0 0 0 0 0 ∷ line 17 19 0 0 0 0 ∷ line 18 0 1 0 0 0 ∷ line 19 0 0 0 0 0 ∷ line 20 0 0 0 0 0 ∷ line 21 0 0 0 0 0
+      ∷ line 22 0 3 0 0 0 ∷ line 23 0 3 1 0 0 ∷ line 24 0 0 0 1 0 ∷ line 25 0 1 0 0 0 ∷ [];
+}
+
 abbrev pub further : List Row
 further = heap0 ∷ heap16384 ∷ heap16448 ∷ threeFit ∷ push9 ∷ regions65
-    ∷ lastDrops ∷ lostRoom ∷ levels ∷ outgoing ∷ again ∷ handed ∷ wordRules ∷ slotRules ∷ threeLevels ∷ sixteenLevels ∷ toRegion1 ∷ []
+    ∷ lastDrops ∷ lostRoom ∷ levels ∷ outgoing ∷ again ∷ handed ∷ wordRules ∷ slotRules ∷ threeLevels ∷ sixteenLevels ∷ toRegion1
+    ∷ gridAndDrafts ∷ leftOut ∷ ledFromOutside ∷ nameLists ∷ mOnce ∷ allOthers ∷ []

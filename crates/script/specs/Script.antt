@@ -1,5 +1,5 @@
--- What a line of a script says. A line is a list of bytes. Its words are a call's name, or its number in document 01 (The calls), and the
--- arguments in document 01's order, written in decimal.
+-- What a line of a script says. A line is a list of bytes. Its words are a call's name, or its number (document 01, The calls; from 24 on those of
+-- document 02's cards), and the arguments in the documents' order, written in decimal.
 -- Assumes nothing.
 use mathlib.Core.Bool.{Bool, not, _&&_, _||_}
 use mathlib.Core.List.{List, [], _∷_, map}
@@ -69,14 +69,14 @@ known v = ltb v noNumber
 
 -- ---- calls
 
--- The calls in the order of document 01's numbers, with `pages` in the place of make: the name, and the least and the most number of
--- arguments (document 01, The calls; declare's are its marks, 64 at most on a line). A call added later is a row at the end.
+-- The calls in the order of document 01's numbers, with `pages` in the place of make, and then those of document 02's cards: the name, and the least and the
+-- most number of arguments (declare's are its marks and delete_all's its names, 64 at most on a line). A call added later is a row at the end.
 abbrev pub calls : List (String × ℕ × ℕ)
 calls =
     ("pages", 1, 1) ∷ ("declare", 0, 64) ∷ ("new_region", 0, 0) ∷ ("subregion", 1, 1) ∷ ("push", 1, 1) ∷ ("drop", 0, 0) ∷ ("hand_back", 2, 2)
     ∷ ("allocate", 3, 3) ∷ ("first", 2, 2) ∷ ("copy", 2, 2) ∷ ("fetch", 2, 2) ∷ ("clear", 1, 1) ∷ ("load", 3, 3) ∷ ("set_pointer", 3, 3)
     ∷ ("put", 3, 3) ∷ ("get", 2, 2) ∷ ("view", 1, 1) ∷ ("same", 2, 2) ∷ ("about", 1, 1) ∷ ("report", 1, 1) ∷ ("totals", 0, 0) ∷ ("audit", 0, 0)
-    ∷ ("delete", 1, 1) ∷ []
+    ∷ ("delete", 1, 1) ∷ ("delete_all", 0, 64) ∷ []
 
 -- the number of the last call; the first after `pages` is 2
 abbrev pub lastCall : ℕ

@@ -3,7 +3,7 @@ use state::Done;
 use state::Reply;
 use state::State;
 
-// The calls' numbers in document 01.
+// The calls' numbers in document 01, and those of document 02's cards.
 pub const MAKE: u32 = 1;
 
 pub const DECLARE: u32 = 2;
@@ -50,10 +50,24 @@ pub const AUDIT: u32 = 22;
 
 pub const DELETE: u32 = 23;
 
-// The call with that number and these arguments.
+pub const DELETE_ALL: u32 = 24;
+
+// How many of three numbers stand before the first that is 0.
+fn before_zero(a: u32, b: u32, c: u32) -> usize {
+    if a == 0 {
+        return 0;
+    }
+    if b == 0 {
+        return 1;
+    }
+    if c == 0 { 2 } else { 3 }
+}
+
+// The call with that number and these arguments. Its list has the arguments before the first that is 0: no region has the name 0.
 fn called(s: State, heap: &mut [u32], number: u32, a: u32, b: u32, c: u32) -> Done {
-    let none = [0u32; 0];
-    store::call(s, heap, number, a, b, c, 0, &none)
+    let list = [a, b, c];
+    let n = before_zero(a, b, c);
+    store::call(s, heap, number, a, b, c, 0, cells::part(&list, 0, n))
 }
 
 // A call made n times, and once for 0, each time on what the one before left; the last one's reply.
@@ -103,7 +117,14 @@ fn line_from(since: u32, place: u32, r: Reply) {
     }
 }
 
-// A session goes on: these calls, each its number and three arguments, the first of them at the place `first`; a line for those from the place `since` on, which begins with the call's place.
+// Delete all of these, with a line that begins with the call's place.
+pub fn deletes(s: State, heap: &mut [u32], place: u32, names: &[u32]) -> State {
+    let d = store::delete_all(s, heap, names);
+    lines::line(place, d.reply);
+    d.state
+}
+
+// A session goes on: these calls, each its number and three arguments (delete_all's are its names, up to the first 0), the first of them at the place `first`; a line for those from the place `since` on, which begins with the call's place.
 pub fn plays(s: State, heap: &mut [u32], first: u32, since: u32, calls: &[[u32; 4]]) -> State {
     let mut t = s;
     let mut place = first;
