@@ -1,7 +1,7 @@
 -- Regions deleted together, computed on memories written out, where a wrong call would answer or leave something else.
 -- Assumes nothing.
 use mathlib.Core.Path.{_≡_, refl}
-use mathlib.Core.Bool.{true}
+use mathlib.Core.Bool.{true, not, _&&_}
 use mathlib.Core.List.{List, [], _∷_, _++_}
 use Prim.Native.Nat.{ℕ}
 use lib.Dec.{eqb}
@@ -102,8 +102,8 @@ gave : Accepted (deleteAll (2 ∷ 3 ∷ [])) linked (gives (2 ∷ [])) (deleted 
 unfolding blank Accepted entryOf tagOf entryIn pagesIn pagesOf
 gave = ((refl, refl), (refl, refl))
 
--- the audit accepts the memories but the last, and what is left of three of them
-exact : every sound (linked ∷ nested ∷ pointedAt ∷ above ∷ below ∷ crowded ∷ deleted linked (2 ∷ 3 ∷ []) ∷ deleted linked (3 ∷ 2 ∷ []) ∷ deleted crowded (2 ∷ 3 ∷ []) ∷ []) ≡ true
+-- the audit accepts the memories, and what is left of three of them, but not the one with a region entered as its own region above
+exact : (every sound (linked ∷ nested ∷ pointedAt ∷ above ∷ below ∷ crowded ∷ deleted linked (2 ∷ 3 ∷ []) ∷ deleted linked (3 ∷ 2 ∷ []) ∷ deleted crowded (2 ∷ 3 ∷ []) ∷ []) && not (sound looped)) ≡ true
 unfolding blank frameCount topFrame widthAt slotAt raised kindCount sizeOf markAt nameAt entryOf tagOf countAt withoutRegions withCounts rolled moved pageCount ownerAt takenAt ownerIn ownerOf freed walk headersTo headersOn freeWords freeWordsOn outOf slotTargets recounted outgoing newlyCounted deleted sizeIn entryIn recount targetsIn newlyIn freeWordsOf ownersTo nameOf parentAt levelAt newestAt oldestAt isFree entries listedRegions listedKinds listedFrames listedHeld listedFree metOn begin slotsOf pointersOf leads homeOf slotsLeadingTo wordsLeadingTo outside uncountedInto storedCount countsExact slotsLead wordsLead pagesHeld filled placed newestOwn oldestOwn nameIn sound climb
 exact = refl
 
