@@ -1,6 +1,6 @@
 -- The tests and the state left are those of the call's outcome.
 -- Assumes nothing.
-use mathlib.Core.Path.{_≡_, ap, _∙_}
+use mathlib.Core.Path.{_≡_, ap, _∙_, fun-ext}
 use mathlib.Core.Logic.{_≢_}
 use mathlib.Core.Bool.{Bool, true, false}
 use mathlib.Core.List.{List, [], _∷_, map}
@@ -17,21 +17,20 @@ use Rattle.regions.specs.Regions.{entryOf, tagOf, withoutRegions, withCounts}
 use Rattle.regions.specs.Laws.Counts.{Counts}
 use Rattle.regions.specs.Laws.Steps.{enterings, leavings}
 use Rattle.pages.specs.Pages.{pageCountIn, pageCount, pagesWith, pagesOf, freed}
-use Rattle.outcomes.specs.Store.{Store, frames, kinds, regions, pages, ledAmongIn}
+use Rattle.outcomes.specs.Store.{Store, frames, kinds, regions, pages}
 use Rattle.outcomes.specs.Outcome.{Outcome, Accepted, refusal, recounted, newlyIn, newlyCounted, deleted}
 use Rattle.outcomes.specs.Laws.Steps.{by-refusal, by-effect, by-parts}
 use Rattle.lists.specs.Ticks.{tickAt, ticked}
 use Rattle.members.specs.Members.{tagBy}
-use Rattle.members.specs.Laws.Ticked.{ticked-among}
+use Rattle.lists.specs.Laws.Ticks.{blank-ticked}
 use Rattle.joint_parts.specs.Joint.{stillCounted, outFrom, freedTo, heldBy, namesLeft}
-use Rattle.calls_delete_all.specs.DeleteAll.{listTests}
-use Rattle.calls_delete_all.specs.Laws.Tags.{tags-most}
+use Rattle.calls_delete_all.specs.Laws.Tags.{tags-below}
 use Rattle.calls_delete_all.specs.Laws.Gone.{held-are, freed-are, names-are}
 use Rattle.calls_delete_all.specs.Laws.Counted.{entered-are}
-use Rattle.calls_delete_all.specs.Laws.Tests.{Live, tags, pointed, refused-first, passed-first, passed-live, passed-once, pointed-are}
+use Rattle.calls_delete_all.specs.Laws.Tests.{Live, tags, firsts, countLeft, refused-first, passed-first, passed-live, passed-once, count-left-is}
 
 -- the regions with these names and counts
-abbrev pub regionsWith : Regions → List ℕ → List ℕ → Regions
+abbrev regionsWith : Regions → List ℕ → List ℕ → Regions
 regionsWith g names counts = record { given = g .given; names = names; parents = g .parents; levels = g .levels; counts = counts; newest = g .newest; oldest = g .oldest }
 
 module _ (S : Store) (rs : List ℕ) where
@@ -40,10 +39,10 @@ module _ (S : Store) (rs : List ℕ) where
   ticks = ticked (replicate 65 0) (map (tagBy ((regions S) .names)) rs)
 
   -- g is what a function gave for the first tests
-  module _ (g : ℕ) (asked : g ≡ reason (listTests ((pages S) .made) (length (S .heap)) rs ((regions S) .names) ((regions S) .parents) (let f = frames S in ledAmongIn (f .standing) (f .counted) (f .widths) (f .slots) ((pages S) .owners)) (tickAt ticks))) where
+  module _ (g : ℕ) (asked : g ≡ reason (firsts S rs (tickAt ticks))) where
     named : Live S rs → tickAt ticks ≡ (λ t. among t (tags S rs))
     unfolding tagBy tagOf entryOf
-    named live = ticked-among (tags S rs) (tags-most (regions S) rs live)
+    named live = fun-ext (λ t. blank-ticked 65 (tags S rs) t (tags-below (regions S) rs live))
 
     pub delete-all-refused : (a : Answer) (T : Store) → g ≢ 0 → a ≡ refusedBy g → T ≡ S → Outcome (deleteAll rs) S a T
     delete-all-refused a T z p q = by-refusal (deleteAll rs) S a T g (refused-first S rs (tickAt ticks) named g asked z) z p q
@@ -61,8 +60,8 @@ module _ (S : Store) (rs : List ℕ) where
       members : tickAt ms ≡ (λ t. among t (tags S rs))
       members = ap tickAt (filled z) ∙ named live
 
-      left : b ≡ pointed S rs
-      left = looked ∙ rw (scanned, members) (pointed-are S rs live once fits)
+      left : b ≡ countLeft S rs
+      left = looked ∙ rw (scanned, members) (count-left-is S rs live once fits)
 
       second : refusal S (deleteAll rs) ≡ pick b 19 0
       second = passed-first S rs (tickAt ticks) named g asked z ∙ rw left

@@ -11,7 +11,7 @@ ghost use Rattle.lists.specs.Ticks.{tickAt, ticked};
 ghost use Rattle.members.specs.Members.{tagBy};
 ghost use Rattle.calls_delete_all.specs.DeleteAll.{listTests};
 
-// 21, 22, then 2 and 3 for each name, then 18, then of 19 what needs no scan: a slot of an uncounted frame. The regions named are ticked, where that is 0.
+// 21, 22, then 2 and 3 for each name, then 18, then of 19 what needs no scan: a slot of an uncounted frame. The regions named are ticked, where it gives 0.
 fn list_refusal<'a>(
     made: u32,
     words: usize,
@@ -37,14 +37,13 @@ fn list_refusal<'a>(
     if g != 0 {
         return g;
     }
-    if joint_parts::closed(names, parents, members) {
-        if joint_parts::led(standing, counted, widths, slots, owners, members) {
-            19
-        } else {
-            0
-        }
+    if !joint_parts::closed(names, parents, members) {
+        return 18;
+    }
+    if joint_parts::led(standing, counted, widths, slots, owners, members) {
+        19
     } else {
-        18
+        0
     }
 }
 
@@ -56,6 +55,7 @@ pub fn delete_all(s: State, heap: &[u32], list: &[u32]) -> Done
     let mut t = s;
     let n = t.frames.standing;
     let m = t.frames.counted;
+    // a byte for each tag from 0 to 64
     let mut members = [0u8; 65];
     let g = list_refusal(
         t.pages.made,

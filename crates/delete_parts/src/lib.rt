@@ -1,4 +1,4 @@
-// What delete asks before a region goes, and the frames that are counted from then on.
+// What delete asks before a region goes, and the frames that are counted from then on, after a joint delete too.
 ghost use mathlib.Core.Path.{_≡_};
 ghost use lib.ListN.{getD};
 ghost use Rattle.model.specs.Calls.{reason};

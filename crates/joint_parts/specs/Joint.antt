@@ -1,4 +1,4 @@
--- Several regions at once, those whose tags pass a test: what of them is in a page, a count, an entry. The call's outcome says the same by the list of names (outcomes, Outcome).
+-- Several regions at once (document 02, card 2), those whose tags pass a test: what of them is in a page, a count, an entry. The call's outcome says the same by the list of names (outcomes, Outcome).
 -- Assumes nothing.
 use mathlib.Core.Bool.{Bool, not, _&&_}
 use mathlib.Core.List.{List, [], map}

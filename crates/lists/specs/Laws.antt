@@ -1,4 +1,4 @@
--- Laws of the functions of Lists, proved: nothing here has to be believed.
+-- Laws of the functions of Lists and Ticks, proved: nothing here has to be believed.
 pub mod Tests
 pub mod Sums
 pub mod All

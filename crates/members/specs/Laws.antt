@@ -1,3 +1,2 @@
 -- Laws, proved: nothing here has to be believed.
-pub mod Ticked
 pub mod Cases

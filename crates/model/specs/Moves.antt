@@ -29,7 +29,7 @@ weighs L s w r x = pick (eqb ((inSlot L s) .home) r) 0 (freeInto (homeIn L) r (m
 unfoldable pub fromRegion : Model → ℕ → ℕ → ℕ
 fromRegion L q r = sumOf (λ o. pick (eqb (o .home) q) (sumOf₂ (freeInto (homeIn L) r) (marks (L .kinds) (o .kind)) (o .words)) 0) (L .objects)
 
--- and those of several regions (document 01, Delete: they leave the counts of the regions they lead to)
+-- and those of several regions (document 01, Delete, and document 02, card 2: they leave the counts of the regions they lead to)
 unfoldable pub fromRegions : Model → List ℕ → ℕ → ℕ
 fromRegions L qs r = sumOf (λ q. fromRegion L q r) qs
 

@@ -1,4 +1,4 @@
--- Each call's outcome: answer, state and heap. `checks` has a call's refusals in document 01's order, `Accepted` what an accepted call gives and leaves.
+-- Each call's outcome: answer, state and heap. `checks` has a call's refusals in the documents' order, `Accepted` what an accepted call gives and leaves.
 -- The equations hold of any memory. What they say of memory that the audit rejects is more than document 01 fixes: callers may rely there on demand 1 alone.
 -- Assumes nothing.
 use mathlib.Core.Path.{_≡_}
@@ -110,7 +110,7 @@ checks S audit = []
 checks S (delete r) =
     badLength S yields 21 ∷ dead S r yields 2 ∷ eqb r 1 yields 3 ∷ not (eqb (subregionsOf (regions S) (tagOf (regions S) r)) 0) yields 18
     ∷ (not (eqb (countAt (regions S) (entryOf (regions S) r)) 0) || ledInto S (tagOf (regions S) r)) yields 19 ∷ []
--- 18 and 19 by the tags of those named. 19: some member's count has a pointer left, or the look over the uncounted frames, once for all of them, finds a slot
+-- 18 and 19 by the tags of those named (document 02, card 2). 19: some member's count has a pointer left, or the look over the uncounted frames, once for all of them, finds a slot
 checks S (deleteAll rs) =
     let g = regions S in
     let ts = map (tagOf g) rs in

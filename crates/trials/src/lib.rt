@@ -63,7 +63,7 @@ fn before_zero(a: u32, b: u32, c: u32) -> usize {
     if c == 0 { 2 } else { 3 }
 }
 
-// The call with that number and these arguments. Its list has the arguments before the first that is 0: no region has the name 0.
+// The call with that number and these arguments. For delete_all they are its list, up to the first that is 0: no region has the name 0. Declare has its own function (`with_kind`).
 fn called(s: State, heap: &mut [u32], number: u32, a: u32, b: u32, c: u32) -> Done {
     let list = [a, b, c];
     let n = before_zero(a, b, c);

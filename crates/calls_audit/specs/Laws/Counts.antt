@@ -1,6 +1,6 @@
 -- The test of the stored counts is Sound's clause, where names are distinct, pages are owned by regions that live, and all pointers lead to objects.
 -- Assumes nothing.
-use mathlib.Core.Path.{_≡_, refl, ap, _∙_}
+use mathlib.Core.Path.{_≡_, ap, _∙_}
 use mathlib.Core.Logic.{_≢_}
 use mathlib.Core.Bool.{Bool, true, false, not, _||_}
 use mathlib.Core.List.{List, map}
@@ -10,7 +10,7 @@ use lib.Dec.{eqb, leb}
 use lib.ListN.{getD}
 use borrow.Author.Tests.{eqb-true, eqb-false, eq-eqb, ne-eqb, leb-true}
 use Rattle.lists.specs.Lists.{bit, pick, keep, sumOf, countOf, All, joined, upTo, times}
-use Rattle.lists.specs.Laws.Tests.{both, by-test, or-other, eqb-sym, or-known}
+use Rattle.lists.specs.Laws.Tests.{both, by-test, or-other, eqb-sym, or-known, pick-not}
 use Rattle.lists.specs.Laws.All.{all-map, all-change}
 use Rattle.lists.specs.Laws.Sums.{sum-map, sum-append, sum-joined, sum-most, count-most}
 use Rattle.lists.specs.Laws.Finds.{every-true, times-keep}
@@ -39,10 +39,6 @@ use Rattle.calls_audit.specs.Laws.Heap.{stands, slotsPass, wordPasses, o
 
 eqb-iff : (a b c d : ℕ) → (a ≡ b → c ≡ d) → (c ≡ d → a ≡ b) → eqb a b ≡ eqb c d
 eqb-iff a b c d f g = by-test (eqb c d) (λ e. rw e (eq-eqb a b (g (eqb-true c d e)))) (λ e. rw e (ne-eqb a b (λ q. eqb-false c d e (f q))))
-
-pick-not : (b : Bool) (n : ℕ) → pick (not b) n 0 ≡ pick b 0 n
-pick-not true n = refl
-pick-not false n = refl
 
 module _ (S : Store) where
   -- ---- the test over lists, of those of S; cs is the list that pointers leave

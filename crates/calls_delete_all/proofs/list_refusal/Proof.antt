@@ -47,13 +47,12 @@ module _ (made words : ℕ) (list names parents : List ℕ) (led : (ℕ → Bool
 
 returns-4 : tie.Need-returns-4
 returns-4 c =
-    let l = c .before in
-    let d = l .before .before .before in
+    let d = c .before in
     let m = d .before .before .before .before .before in
     let n = m .before .before .before in
     let w = n .before .before in (
       sym (past _ _ _ _ _ _ _ _ _ _ (w .wrong-length .ensures) (n .before .if1 .left) (n .wrong-names .ensures) (m .before .before .if2 .left) (m .tick .ensures .0) (d .before .before .if3 .left)
-          ∙ rw (← m .tick .ensures .1, ← d .closed .ensures, l .before .before .if4 .taken, ← l .led .ensures, c .if5 .taken)),
+          ∙ rw (← m .tick .ensures .1, ← d .closed .ensures, c .if4 .taken)),
       λ e. absurd (omega arith),
     )
 
@@ -65,20 +64,21 @@ returns-5 c =
     let n = m .before .before .before in
     let w = n .before .before in (
       sym (past _ _ _ _ _ _ _ _ _ _ (w .wrong-length .ensures) (n .before .if1 .left) (n .wrong-names .ensures) (m .before .before .if2 .left) (m .tick .ensures .0) (d .before .before .if3 .left)
-          ∙ rw (← m .tick .ensures .1, ← d .closed .ensures, l .before .before .if4 .taken, ← l .led .ensures, c .if5 .left)),
-      λ e. m .tick .ensures .1,
+          ∙ rw (← m .tick .ensures .1, ← d .closed .ensures, l .before .before .if4 .left, ← l .led .ensures, c .if5 .taken)),
+      λ e. absurd (omega arith),
     )
 
 returns-6 : tie.Need-returns-6
 returns-6 c =
-    let d = c .before in
+    let l = c .before in
+    let d = l .before .before .before in
     let m = d .before .before .before .before .before in
     let n = m .before .before .before in
     let w = n .before .before in (
       sym (past _ _ _ _ _ _ _ _ _ _ (w .wrong-length .ensures) (n .before .if1 .left) (n .wrong-names .ensures) (m .before .before .if2 .left) (m .tick .ensures .0) (d .before .before .if3 .left)
-          ∙ rw (← m .tick .ensures .1, ← d .closed .ensures, c .if4 .left)),
-      λ e. absurd (omega arith),
+          ∙ rw (← m .tick .ensures .1, ← d .closed .ensures, l .before .before .if4 .left, ← l .led .ensures, c .if5 .left)),
+      λ e. m .tick .ensures .1,
     )
 
 pub list-refusal-spec : {M : Type 1} → statement M
-list-refusal-spec = tie.close (tie.spec (λ c κs. search needs) returns (λ c κs. search needs) returns-2 (λ c κs. search needs) (λ c. search needs) returns-3 (λ c κs. search needs) (λ c κs. search needs) (λ c. search needs) returns-4 (λ c. search needs) returns-5 (λ c. search needs) returns-6)
+list-refusal-spec = tie.close (tie.spec (λ c κs. search needs) returns (λ c κs. search needs) returns-2 (λ c κs. search needs) (λ c. search needs) returns-3 (λ c κs. search needs) (λ c. search needs) returns-4 (λ c κs. search needs) (λ c. search needs) returns-5 (λ c. search needs) returns-6)

@@ -35,7 +35,7 @@ linked =
 abbrev nested : Store
 nested = linked but setParents (0 ∷ 0 ∷ 2 ∷ replicate 61 0) but setLevels (1 ∷ 1 ∷ 2 ∷ 1 ∷ replicate 60 0)
 
--- One pointer more: a word of region 1 leads into region 2; a slot of the upper frame leads into region 3; the lower frame is counted, and one of its slots leads into region 3.
+-- One change each: a word of region 1 leads into region 2; a slot of the upper frame leads into region 3; the lower frame is counted, and one of its slots leads into region 3.
 abbrev pointedAt : Store
 pointedAt = linked but setHeap (set (linked .heap) 2 65) but setCounts (2 ∷ 2 ∷ 1 ∷ 2 ∷ replicate 60 0)
 
@@ -58,7 +58,7 @@ crowded =
     but setCounts (0 ∷ 1 ∷ 300 ∷ replicate 61 0) but setNewest (0 ∷ 8 ∷ 1 ∷ replicate 61 0) but setOldest (0 ∷ 65 ∷ 1 ∷ replicate 61 0)
     but setOwners (3 ∷ replicate 7 2 ++ replicate 248 0) but setTaken (17 ∷ replicate 6 51 ++ (17 ∷ replicate 248 0))
 
--- a memory, a call on it, and the number that refuses
+-- a memory, a call on it, and the number that refuses it, 0 for none
 abbrev asked : List (Store × Call × ℕ)
 asked =
     -- two regions that lead into each other: neither can go alone, both can together
@@ -102,7 +102,7 @@ gave : Accepted (deleteAll (2 ∷ 3 ∷ [])) linked (gives (2 ∷ [])) (deleted 
 unfolding blank Accepted entryOf tagOf entryIn pagesIn pagesOf
 gave = ((refl, refl), (refl, refl))
 
--- the audit accepts the memories, and what is left of three of them, but not the one with a region entered as its own region above
+-- the audit accepts the memories, and what three of the deletes leave, but not the one with a region entered as its own region above
 exact : (every sound (linked ∷ nested ∷ pointedAt ∷ above ∷ below ∷ crowded ∷ deleted linked (2 ∷ 3 ∷ []) ∷ deleted linked (3 ∷ 2 ∷ []) ∷ deleted crowded (2 ∷ 3 ∷ []) ∷ []) && not (sound looped)) ≡ true
 unfolding blank frameCount topFrame widthAt slotAt raised kindCount sizeOf markAt nameAt entryOf tagOf countAt withoutRegions withCounts rolled moved pageCount ownerAt takenAt ownerIn ownerOf freed walk headersTo headersOn freeWords freeWordsOn outOf slotTargets recounted outgoing newlyCounted deleted sizeIn entryIn recount targetsIn newlyIn freeWordsOf ownersTo nameOf parentAt levelAt newestAt oldestAt isFree entries listedRegions listedKinds listedFrames listedHeld listedFree metOn begin slotsOf pointersOf leads homeOf slotsLeadingTo wordsLeadingTo outside uncountedInto storedCount countsExact slotsLead wordsLead pagesHeld filled placed newestOwn oldestOwn nameIn sound climb
 exact = refl

@@ -46,7 +46,7 @@ module _ (k : Kinds) (heap : List ℕ) (p : Pages) (u : ℕ) where
       go j false e = refl
 
   -- those of the regions with the tags ts
-  pub out-same : (ts : List ℕ) → ((t : ℕ) → times t ts ≤ 1)
+  out-same : (ts : List ℕ) → ((t : ℕ) → times t ts ≤ 1)
       → times u (outFrom k heap p (λ t. among t ts) (pageCount p)) ≡ times u (joined (λ t. outOf (p .owners) t (freeWordsOf k heap p t)) ts)
   unfolding outFrom
   out-same ts once =

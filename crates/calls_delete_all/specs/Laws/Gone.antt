@@ -9,7 +9,7 @@ use lib.Dec.{eqb, ltb}
 use lib.ListN.{length, getD}
 use lib.Seq.{ext-getD}
 use borrow.Author.Tests.{ltb-false, ne-eqb}
-use Rattle.lists.specs.Lists.{bit, pick, sumOf, All, upTo, times, among}
+use Rattle.lists.specs.Lists.{pick, sumOf, All, upTo, times, among}
 use Rattle.lists.specs.Laws.Tests.{by-test, bit-pick}
 use Rattle.lists.specs.Laws.All.{all-map}
 use Rattle.lists.specs.Laws.Finds.{false-any}
@@ -23,7 +23,6 @@ use Rattle.joint_parts.specs.Laws.Zeroed.{zeroed-length, zeroed-at}
 use Rattle.joint_parts.specs.Joint.{zeroed, freedTo, heldBy, namesLeft}
 use Rattle.calls_delete_all.specs.Laws.Tags.{tag-entry, entries-below}
 
--- a bit as a number that counts or does not
 -- how many pages there were
 pub held-are : (p : Pages) (ts : List ℕ) → ((t : ℕ) → times t ts ≤ 1) → heldBy (p .owners) (λ t. among t ts) (pageCountIn (p .made)) ≡ sumOf (pagesOf p) ts
 unfolding heldBy pagesOf pagesIn

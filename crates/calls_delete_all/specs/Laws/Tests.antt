@@ -69,18 +69,18 @@ module _ (S : Store) (rs : List ℕ) where
       (names-agree gone gone (λ r. refl) rs (last m) (last n) (λ ns. ap (λ m. reason (last m)) (h (names-live ns))))
 
   -- something is left of a member's count: the other half of the call's last test
-  abbrev pub pointed : Bool
-  pointed = anyOf (λ r. not (eqb (countBut S tags (entryOf (regions S) r)) 0)) rs
+  abbrev pub countLeft : Bool
+  countLeft = anyOf (λ r. not (eqb (countBut S tags (entryOf (regions S) r)) 0)) rs
 
-  tests-are : refusal S (deleteAll rs) ≡ firstRefusal (reason (firsts (λ t. among t tags))) (pick pointed 19 0)
+  tests-are : refusal S (deleteAll rs) ≡ firstRefusal (reason (firsts (λ t. among t tags))) (pick countLeft 19 0)
   unfolding refusal checks listTests badLength wrongLength dead isLive entryOf deadBy ledAmong
   tests-are =
       let strays = not (closedIn ((regions S) .names) ((regions S) .parents) (λ t. among t tags)) in
       let led = ledAmong S tags in
       ap (λ n. pick (badLength S) 21 (pick (wrongNames rs) 22 n))
-      (names-agree (dead S) (dead S) (λ r. refl) rs (strays yields 18 ∷ (pointed || led) yields 19 ∷ []) (strays yields 18 ∷ led yields 19 ∷ pointed yields 19 ∷ []) (λ ns. ap (pick strays 18) (halves pointed led)))
-      ∙ ap (λ l. reason (badLength S yields 21 ∷ wrongNames rs yields 22 ∷ l)) (sym (append-assoc (nameTests (dead S) rs) (strays yields 18 ∷ led yields 19 ∷ []) (pointed yields 19 ∷ [])))
-      ∙ reason-append (firsts (λ t. among t tags)) (pointed yields 19 ∷ []) (firsts-numbers (λ t. among t tags))
+      (names-agree (dead S) (dead S) (λ r. refl) rs (strays yields 18 ∷ (countLeft || led) yields 19 ∷ []) (strays yields 18 ∷ led yields 19 ∷ countLeft yields 19 ∷ []) (λ ns. ap (pick strays 18) (halves countLeft led)))
+      ∙ ap (λ l. reason (badLength S yields 21 ∷ wrongNames rs yields 22 ∷ l)) (sym (append-assoc (nameTests (dead S) rs) (strays yields 18 ∷ led yields 19 ∷ []) (countLeft yields 19 ∷ [])))
+      ∙ reason-append (firsts (λ t. among t tags)) (countLeft yields 19 ∷ []) (firsts-numbers (λ t. among t tags))
     where
       -- 19 by either half
       halves : (a b : Bool) → pick {A = ℕ} (a || b) 19 0 ≡ pick b 19 (pick a 19 0)
@@ -94,11 +94,11 @@ module _ (S : Store) (rs : List ℕ) where
     asked-same = asked ∙ firsts-same member (λ t. among t tags) marked
 
     pub refused-first : g ≢ 0 → refusal S (deleteAll rs) ≡ g
-    refused-first z = tests-are ∙ else-first _ g (pick pointed 19 0) asked-same z
+    refused-first z = tests-are ∙ else-first _ g (pick countLeft 19 0) asked-same z
 
     module _ (z : g ≡ 0) where
-      pub passed-first : refusal S (deleteAll rs) ≡ pick pointed 19 0
-      passed-first = tests-are ∙ else-next _ g (pick pointed 19 0) asked-same z
+      pub passed-first : refusal S (deleteAll rs) ≡ pick countLeft 19 0
+      passed-first = tests-are ∙ else-next _ g (pick countLeft 19 0) asked-same z
 
       pub passed-live : Live
       passed-live = firsts-passed member (sym asked ∙ z) .1
@@ -107,9 +107,9 @@ module _ (S : Store) (rs : List ℕ) where
       passed-once = tags-once (regions S) rs passed-live (firsts-passed member (sym asked ∙ z) .0)
 
   -- that half, by the counts that are left without the members' words
-  pub pointed-are : Live → ((t : ℕ) → times t tags ≤ 1) → Counts ((regions S) .counts)
+  pub count-left-is : Live → ((t : ℕ) → times t tags ≤ 1) → Counts ((regions S) .counts)
       → let m : ℕ → Bool = λ t. among t tags in
-      stillCounted (leavings ((regions S) .counts) (outFrom (kinds S) (S .heap) (pages S) m (pageCountIn ((pages S) .made)))) m ≡ pointed
+      stillCounted (leavings ((regions S) .counts) (outFrom (kinds S) (S .heap) (pages S) m (pageCountIn ((pages S) .made)))) m ≡ countLeft
   unfolding countBut countAt withCounts
-  pointed-are live once fits =
+  count-left-is live once fits =
       still-are (regions S) rs _ live ∙ ap (λ g. anyOf (λ r. not (eqb (countAt g (entryOf (regions S) r)) 0)) rs) (left-are S tags once fits)

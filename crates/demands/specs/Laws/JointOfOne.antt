@@ -129,9 +129,9 @@ module _ (S : Store) (r : ℕ) where
   abbrev own : Bool
   own = eqb (parentAt g entry) tag && eqb (subregionsOf g tag) 1
 
-  members : dead S r ≡ false → closedIn (g .names) (g .parents) (λ t. among t (tag ∷ [])) ≡ (eqb (subregionsOf g tag) 0 || own)
+  closed-of-one : dead S r ≡ false → closedIn (g .names) (g .parents) (λ t. among t (tag ∷ [])) ≡ (eqb (subregionsOf g tag) 0 || own)
   unfolding tagOf subregionsOf parentAt nameAt
-  members d = rw (add-one entry) (closed-one (g .names) (g .parents) entry (in-entries d) (used d))
+  closed-of-one d = rw (add-one entry) (closed-one (g .names) (g .parents) entry (in-entries d) (used d))
 
   -- the stored count of a live region is one of 32 bits
   abbrev Small : Type 0
@@ -154,7 +154,7 @@ module _ (S : Store) (r : ℕ) where
 
   joint-tested : Small → refusal S (deleteAll (r ∷ [])) ≡ tested (not (eqb (subregionsOf g tag) 0 || own))
   unfolding refusal checks wrongNames nameTests tested
-  joint-tested small = by-test (dead S r) (λ d. rw d) (λ d. rw (d, members d, counted small d, or-false (not (eqb (countAt g entry) 0)), look-one S tag))
+  joint-tested small = by-test (dead S r) (λ d. rw d) (λ d. rw (d, closed-of-one d, counted small d, or-false (not (eqb (countAt g entry) 0)), look-one S tag))
 
   -- where delete answers 18 it got as far as the subregions
   got-there : refusal S (delete r) ≡ 18 → (badLength S ≡ false) × (dead S r ≡ false) × (eqb r 1 ≡ false)

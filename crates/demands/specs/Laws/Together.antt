@@ -13,8 +13,8 @@ use Rattle.lists.specs.Laws.Tests.{by-test, or-right, pick-same}
 use Rattle.lists.specs.Laws.All.{all-map, all-both}
 use Rattle.lists.specs.Laws.Finds.{any-count, false-any, every-true, true-every, find-none}
 use Rattle.lists.specs.Laws.Sums.{sum-same, sum-nothing}
-use Rattle.lists.specs.Laws.Kept.{all-each, among-self, once-repeats}
-use Rattle.model.specs.Model.{Model, Region, noRegion, called, region, livesIn, homeIn, parentIn, closed}
+use Rattle.lists.specs.Laws.Kept.{all-each, among-all, once-repeats}
+use Rattle.model.specs.Model.{Model, Region, region, livesIn, homeIn, parentIn, closed}
 use Rattle.model.specs.Calls.{wrongNames}
 use Rattle.model.specs.Valid.{Valid}
 use Rattle.model.specs.Laws.Regions.{found-itself, live-zero}
@@ -23,6 +23,7 @@ use Rattle.outcomes.specs.History.{History, Object, Word, isLive, at, homeOf, p
 use Rattle.outcomes.specs.History as history
 use Rattle.demands.specs.Demands.{namesPass, Demand3}
 use Rattle.demands.specs.Later.{freeWordsNull, AllTogether}
+use Rattle.refinement.specs.Laws.Report.{names-live}
 use Rattle.histories.specs.Laws.Tells.{Tells, live-is, closed-is, each-met}
 use Rattle.demands.specs.Laws.Steps.{run-told}
 use Rattle.demands.specs.Laws.Demand3.{start-told, demand3}
@@ -48,7 +49,7 @@ module _ {L : Model} {sp : List ℕ} {h : History} (v : Valid L) (t : Tells L sp
     ne-eqb (length l) 0 (λ z. omega arith),
     le-ltb 16 (length l) b,
     once-repeats l (λ q. most q),
-    true-every (λ r. isLive h r && not (eqb r 1)) l (all-map (λ r e. sym (members r) ∙ e) l (among-self l)),
+    true-every (λ r. isLive h r && not (eqb r 1)) l (among-all _ l (λ r e. sym (members r) ∙ e)),
   )
     where
       small : (b : Bool) → bit b ≤ 1
@@ -61,16 +62,12 @@ module _ {L : Model} {sp : List ℕ} {h : History} (v : Valid L) (t : Tells L sp
   -- region 1 has none above it, and every other live region is a member
   all-closed : history.closed h l ≡ true
   unfolding closed
-  all-closed = closed-is t l ∙ true-every _ (L .regions) (all-map each (L .regions) (all-both _ _ (L .regions) (found-itself (L .regions) (v .names .distinct)) (v .names .named)))
+  all-closed = closed-is t l ∙ true-every _ (L .regions) (all-map each (L .regions) (all-both _ _ (L .regions) (found-itself (L .regions) (v .names .distinct)) (names-live (L .regions))))
     where
-      lives : (x : Region) → region (L .regions) (x .name) ≡ x → 1 ≤ x .name → livesIn L (x .name) ≡ true
-      lives x e n = by-test (livesIn L (x .name)) (λ y. y)
-          (λ y. let z = sym (ap (λ g. g .name) e) ∙ ap (λ g. g .name) (find-none (called (x .name)) noRegion (L .regions) y) in absurd (omega (arith, z, n)))
-
-      each : (x : Region) → (region (L .regions) (x .name) ≡ x) × (1 ≤ x .name) → (not (among (x .parent) l) || among (x .name) l) ≡ true
-      each x (e, n) = by-test (eqb (x .name) 1)
+      each : (x : Region) → (region (L .regions) (x .name) ≡ x) × (livesIn L (x .name) ≡ true) → (not (among (x .parent) l) || among (x .name) l) ≡ true
+      each x (e, k) = by-test (eqb (x .name) 1)
           (λ o. let z : x .parent ≡ 0 = sym (ap (λ g. g .parent) e) ∙ ap (parentIn L) (eqb-true (x .name) 1 o) ∙ v .names .root in rw (z, zero-out))
-          (λ o. or-right (not (among (x .parent) l)) (among (x .name) l) (members (x .name) ∙ rw (live-is t (x .name), lives x e n, o)))
+          (λ o. or-right (not (among (x .parent) l)) (among (x .name) l) (members (x .name) ∙ rw (live-is t (x .name), k, o)))
 
   -- a null word leads into no member
   null-away : (r : ℕ) → among r l ≡ true → eqb (homeOf h 0) r ≡ false
@@ -99,9 +96,9 @@ module _ {L : Model} {sp : List ℕ} {h : History} (v : Valid L) (t : Tells L sp
 
   all-away : h .frames ≡ [] → freeWordsNull h S 1 ≡ true → All (λ r. outsideBut h S l r ≡ 0) l
   unfolding outsideBut freeWordsNull
-  all-away f n = all-map (λ r e. ap₂ _+_ (ap (λ fs. sumOf (slotsLeadingTo h S r) (upTo (length fs))) f) (
+  all-away f n = among-all _ l (λ r e. ap₂ _+_ (ap (λ fs. sumOf (slotsLeadingTo h S r) (upTo (length fs))) f) (
       sum-same _ (λ o. 0) (h .objects) (all-map (λ o z. object-away r e o (z .0) (z .1)) (h .objects) (all-both _ _ (h .objects) live (every-true _ (h .objects) n)))
-      ∙ sum-nothing (λ o. 0) (λ o. refl) (h .objects))) l (among-self l)
+      ∙ sum-nothing (λ o. 0) (λ o. refl) (h .objects)))
     where
       live : All (λ o. isLive h (o .home) ≡ true) (h .objects)
       live = every-true _ (h .objects) (each-met t (λ o. isLive h (o .home)) (λ q a. live-is t (homeIn L q) ∙ a))

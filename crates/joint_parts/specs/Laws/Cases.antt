@@ -35,6 +35,7 @@ kinds = kindsWith 1 (2 ∷ []) (1 ∷ 1 ∷ [])
 abbrev heap : List ℕ
 heap = (1 ∷ 193 ∷ replicate 62 0) ++ (1 ∷ 129 ∷ 1 ∷ replicate 61 0) ++ (1 ∷ 65 ∷ 193 ∷ replicate 61 0) ++ (1 ∷ 1 ∷ replicate 62 0) ++ (1 ∷ 129 ∷ 65 ∷ replicate 61 0)
 
+-- by words alone, without the counted frame below
 abbrev counts : List ℕ
 counts = 2 ∷ 1 ∷ 2 ∷ 2 ∷ []
 
@@ -58,7 +59,7 @@ cases =
     ∷ (0 ∷ 0 ∷ 1 ∷ 0 ∷ 0 ∷ [], (0 ∷ 0 ∷ 1 ∷ 2 ∷ []) ∷ (1 ∷ 1 ∷ 0 ∷ 2 ∷ []) ∷ (1 ∷ 0 ∷ 3 ∷ 4 ∷ 0 ∷ []) ∷ (1 ∷ 0 ∷ 3 ∷ 4 ∷ []) ∷ [])
     -- regions 2 and 3: words_of_members_stay, page_of_another_given_back
     ∷ (0 ∷ 0 ∷ 1 ∷ 1 ∷ 0 ∷ [], (0 ∷ 0 ∷ 0 ∷ 3 ∷ []) ∷ (1 ∷ 0 ∷ 0 ∷ 1 ∷ []) ∷ (1 ∷ 0 ∷ 0 ∷ 4 ∷ 0 ∷ []) ∷ (1 ∷ 0 ∷ 0 ∷ 4 ∷ []) ∷ [])
-    -- regions 2 and 4: member_subregion_refuses, look_stops_early
+    -- regions 2 and 4: member_subregion_refuses, look_at_one_frame
     ∷ (0 ∷ 0 ∷ 1 ∷ 0 ∷ 1 ∷ [], (1 ∷ 1 ∷ 1 ∷ 3 ∷ []) ∷ (0 ∷ 1 ∷ 0 ∷ 2 ∷ []) ∷ (1 ∷ 0 ∷ 3 ∷ 0 ∷ 0 ∷ []) ∷ (1 ∷ 0 ∷ 3 ∷ 0 ∷ []) ∷ [])
     ∷ []
 

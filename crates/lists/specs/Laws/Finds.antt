@@ -147,7 +147,7 @@ module _ {A : Type 0} where
       go false true false = refl
       go false false c = refl
 
-  -- all are 0 where their sum is, and all pass where as many as none does not
+  -- all are 0 exactly where their sum is; so all pass exactly where none fails
   pub every-zero : (f : A → ℕ) (l : List A) → every (λ x. eqb (f x) 0) l ≡ eqb (sumOf f l) 0
   every-zero f [] = refl
   every-zero f (x ∷ xs) = rw (every-zero f xs) (go (f x) (sumOf f xs))

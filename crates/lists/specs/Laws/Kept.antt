@@ -175,7 +175,7 @@ module _ {A : Type 0} where
       go true q h ih = (λ e. h .0, ih (h .1))
       go false q h ih = (λ e. absurd (false≢true (sym q ∙ e)), ih h)
 
--- a number below n that stands in a list passes where one of the list does
+-- some number below n stands in the list and passes exactly where one of the list passes
 pub any-members : (f : ℕ → Bool) (n : ℕ) (l : List ℕ) → All (λ i. i < n) l → anyOf (λ i. among i l && f i) (upTo n) ≡ anyOf f l
 any-members f n l h = by-test (anyOf f l)
     (λ e.

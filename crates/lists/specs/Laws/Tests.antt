@@ -1,7 +1,7 @@
 -- Laws of truth values.
 -- Assumes nothing.
 use mathlib.Core.Path.{_≡_, refl}
-use mathlib.Core.Bool.{Bool, true, false, _&&_, _||_, true≢false, false≢true}
+use mathlib.Core.Bool.{Bool, true, false, _&&_, _||_, true≢false, false≢true, not}
 use mathlib.Core.Logic.{_⊎_, inl, inr, _≢_}
 use Prim.Native.Nat.{ℕ}
 use native.Mathlib.Omega.{arith}
@@ -38,6 +38,10 @@ bit-zero false e = refl
 pub bit-pick : (b : Bool) → bit b ≡ pick b 1 0
 bit-pick true = refl
 bit-pick false = refl
+
+pub pick-not : (b : Bool) (n : ℕ) → pick (not b) n 0 ≡ pick b 0 n
+pick-not true n = refl
+pick-not false n = refl
 
 pub pick-same : {A : Type 0} (b : Bool) (x : A) → pick b x x ≡ x
 pick-same true x = refl

@@ -33,7 +33,8 @@ ticked-at l (p ∷ ps) q h = ticked-at (set l p 1) ps q (all-map (λ x k. rw len
     go (inl e) = rw (e, getD-set-same l p 1 0 (h .0), eq-eqb p p refl) (sym (or-true (eqb (getD l p 0) 1)))
     go (inr e) = rw (getD-set-other l p q 1 0 e, ne-eqb p q (λ z. e (sym z)))
 
-blank-at : (n q : ℕ) → getD (replicate {A = ℕ} n 0) q 0 ≡ 0
+-- zeros are 0
+pub blank-at : (n q : ℕ) → getD (replicate {A = ℕ} n 0) q 0 ≡ 0
 blank-at zero q = refl
 blank-at (suc n) zero = refl
 blank-at (suc n) (suc q) = blank-at n q

@@ -11,7 +11,7 @@ use lib.ListN.{length, getD, set, take, drop, replicate, length-take, drop-of-le
 use lib.Seq.{length-take-le, drop-nil, take-set-le, take-append-le, take-take, take-suc, drop-at}
 use borrow.Author.Tests.{eqb-true, eqb-false, eq-eqb, ne-eqb, lt-leb, le-leb}
 use Rattle.lists.specs.Lists.{bit, pick, sumOf, sumOf₂, All, times, among}
-use Rattle.lists.specs.Laws.Tests.{both, by-test, pick-same}
+use Rattle.lists.specs.Laws.Tests.{both, by-test, pick-same, pick-not}
 use Rattle.lists.specs.Laws.All.{all-map, all-take, all₂-map}
 use Rattle.lists.specs.Laws.Sums.{sum-set, sum-append, sum-split, sum-plus, sum-pick, sum-same, sum₂-set, sum₂-same, sum₂-none}
 use Rattle.lists.specs.Laws.Kept.{sum-members}
@@ -217,12 +217,12 @@ module _ (L : Model) (v : Valid L) (rs : List ℕ) (m : Removable L rs) (r : ℕ
 -- ---- the words that lead into r: those of several live regions, but for r, and those of the others
 
 module _ (L : Model) (rs : List ℕ) (ls : All (λ q. livesIn L q ≡ true) rs) (once : (q : ℕ) → times q rs ≤ 1) (r : ℕ) where
-  abbrev pub from : Object → ℕ
-  from = fromObject (livesIn L) (homeIn L) (L .kinds) r
+  abbrev pub fromOne : Object → ℕ
+  fromOne = fromObject (livesIn L) (homeIn L) (L .kinds) r
 
-  from-member : (q : ℕ) → livesIn L q ≡ true → sumOf (λ o. pick (eqb (o .home) q) (from o) 0) (L .objects) ≡ pick (eqb q r) 0 (fromRegion L q r)
+  from-member : (q : ℕ) → livesIn L q ≡ true → sumOf (λ o. pick (eqb (o .home) q) (fromOne o) 0) (L .objects) ≡ pick (eqb q r) 0 (fromRegion L q r)
   unfolding fromObject fromRegion
-  from-member q l = ap (λ f. sumOf f (L .objects)) (fun-ext each) ∙ sum-pick (not (eqb q r)) (λ o. pick (eqb (o .home) q) (words o) 0) (L .objects) ∙ other (eqb q r) _
+  from-member q l = ap (λ f. sumOf f (L .objects)) (fun-ext each) ∙ sum-pick (not (eqb q r)) (λ o. pick (eqb (o .home) q) (words o) 0) (L .objects) ∙ pick-not (eqb q r) _
     where
       words : Object → ℕ
       words o = sumOf₂ (freeInto (homeIn L) r) (marks (L .kinds) (o .kind)) (o .words)
@@ -232,16 +232,12 @@ module _ (L : Model) (rs : List ℕ) (ls : All (λ q. livesIn L q ≡ true) rs) 
           (λ e. rw (eqb-true (o .home) q e, l, eq-eqb q q refl))
           (λ e. rw e (sym (pick-same (not (eqb q r)) 0)))
 
-      other : (b : Bool) (n : ℕ) → pick (not b) n 0 ≡ pick b 0 n
-      other true n = refl
-      other false n = refl
-
-  pub words-parted : sumOf (λ o. pick (among (o .home) rs) 0 (from o)) (L .objects) + sumOf (λ q. pick (eqb q r) 0 (fromRegion L q r)) rs ≡ wordPointers L r
+  pub words-parted : sumOf (λ o. pick (among (o .home) rs) 0 (fromOne o)) (L .objects) + sumOf (λ q. pick (eqb q r) 0 (fromRegion L q r)) rs ≡ wordPointers L r
   unfolding inWords
   words-parted =
-      ap (λ x. sumOf (λ o. pick (among (o .home) rs) 0 (from o)) (L .objects) + x)
-      (sum-same _ _ rs (all-map (λ q l. sym (from-member q l)) rs ls) ∙ sum-members (λ o. o .home) from (L .objects) rs once)
-      ∙ sym (sum-plus _ _ (L .objects)) ∙ ap (λ f. sumOf f (L .objects)) (fun-ext (λ o. go (among (o .home) rs) (from o)))
+      ap (λ x. sumOf (λ o. pick (among (o .home) rs) 0 (fromOne o)) (L .objects) + x)
+      (sum-same _ _ rs (all-map (λ q l. sym (from-member q l)) rs ls) ∙ sum-members (λ o. o .home) fromOne (L .objects) rs once)
+      ∙ sym (sum-plus _ _ (L .objects)) ∙ ap (λ f. sumOf f (L .objects)) (fun-ext (λ o. go (among (o .home) rs) (fromOne o)))
     where
       go : (b : Bool) (n : ℕ) → pick b 0 n + pick b n 0 ≡ n
       go true n = omega arith

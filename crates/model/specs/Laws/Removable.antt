@@ -59,7 +59,7 @@ module _ (L : Model) (rs : List ℕ) where
   abbrev Member : ℕ → Type 0
   Member q = among q rs ≡ true
 
-  -- a pointer that leads into its own region, where that is a member, as little as nowhere
+  -- a pointer that counts nothing for the region it leads into, where that is a member, leads into no member
   away : (p : ℕ) → (Member (homeIn L p) → into (homeIn L) (homeIn L p) p ≡ 0) → Away L rs p
   away p h = by-test (among (homeIn L p) rs) (λ e. absurd (one (h e))) (λ e. e)
     where
@@ -114,7 +114,7 @@ removable-all L rs e =
 -- ---- the list of one
 
 -- its outside pointers are the region's: its own words are none of them
-pub outside-one : (L : Model) (r : ℕ) → outsideBut L (r ∷ []) r ≡ outside L r
+outside-one : (L : Model) (r : ℕ) → outsideBut L (r ∷ []) r ≡ outside L r
 unfolding outsideBut outside inWords fromObject
 outside-one L r = ap (λ n. n + inFrames (homeIn L) r (L .frames)) (ap (λ f. sumOf f (L .objects)) (fun-ext own))
   where

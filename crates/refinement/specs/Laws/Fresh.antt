@@ -7,7 +7,7 @@ use mathlib.Core.List.{List, []}
 use Prim.Native.Nat.{ℕ, zero, suc, _*_, _/_, _%_, _≤_, _<_, min}
 use native.Mathlib.Omega.{arith}
 use lib.Dec.{eqb, leb}
-use lib.ListN.{length, getD, replicate, length-replicate}
+use lib.ListN.{length, replicate, length-replicate}
 use borrow.Author.Tests.{eqb-true, leb-true, lt-ltb, lt-leb}
 use Rattle.lists.specs.Lists.{bit, pick, upTo}
 use Rattle.lists.specs.Laws.Tests.{both, pick-same}
@@ -22,16 +22,12 @@ use Rattle.regions.specs.declared.Regions.{Regions}
 use Rattle.regions.specs.Regions.{nameAt, entryOf, tagOf, parentAt, levelAt, newestAt, oldestAt, countAt, entryIn}
 use Rattle.pages.specs.declared.Pages.{Pages}
 use Rattle.pages.specs.Pages.{pageCount, ownerAt, pagesOf, pagesIn}
+use Rattle.lists.specs.Laws.Ticks.{blank-at}
 use Rattle.outcomes.specs.Store.{Store}
 use Rattle.outcomes.specs.Outcome.{store, blank, MakeOutcome}
 use Rattle.outcomes.specs.Shape.{Sized}
 use Rattle.outcomes.specs.Laws.Sized.{blank-sized}
 use Rattle.refinement.specs.Represents.{Represents, EntryAgrees, RoomAgrees}
-
-zeros : (n i : ℕ) → _≡_ {A = ℕ} (getD (replicate n 0) i 0) 0
-zeros zero i = refl
-zeros (suc n) zero = refl
-zeros (suc n) (suc i) = zeros n i
 
 module _ (n : ℕ) where
   -- only region 1 lives, and no object
@@ -53,7 +49,7 @@ module _ (n : ℕ) where
 
   pub all-free : (j : ℕ) → ownerAt p j ≡ 0
   unfolding ownerAt blank
-  all-free j = zeros 256 j
+  all-free j = blank-at 256 j
 
   free-pages : n ≤ 256 → pagesOf p 0 ≡ n
   unfolding pagesOf pageCount blank pagesIn ownerAt

@@ -19,7 +19,7 @@ use Rattle.model.specs.Model.{Model, livesIn, homeIn, parentIn, into, inFrames,
 use Rattle.model.specs.Valid.{Valid}
 use Rattle.model.specs.Moves.{fromRegion}
 use Rattle.model.specs.Laws.Regions.{found-itself}
-use Rattle.model.specs.Laws.Counts.{outside-stored, words-parted, from}
+use Rattle.model.specs.Laws.Counts.{outside-stored, words-parted, fromOne}
 use Rattle.regions.specs.declared.Regions.{Regions}
 use Rattle.regions.specs.Regions.{nameAt, entryOf, tagOf, parentAt, followsIn, closedIn}
 use Rattle.objects.specs.Objects.{freeWordsOf, outOf}
@@ -42,7 +42,7 @@ led-each S ts =
     ap (λ g. anyOf g fs) (fun-ext (λ i. any-swap (λ t x. eqb x t) (targets i) ts ∙ ap (λ g. anyOf g ts) (fun-ext (λ x. ap (λ g. anyOf g (targets i)) (fun-ext (λ t. eqb-sym x t))))))
     ∙ any-swap (λ i x. among x (targets i)) fs ts
 
--- nothing of either
+-- one of two numbers is not 0 exactly where their sum is not
 pub either-not : (a b : ℕ) → (not (eqb a 0) || ltb 0 b) ≡ not (eqb (a + b) 0)
 either-not zero zero = refl
 either-not zero (suc b) = rw (lt-ltb 0 (suc b) (omega arith), ne-eqb (0 + suc b) 0 (λ e. omega arith))
@@ -121,7 +121,7 @@ module _ {L : Model} {sp : List ℕ} {ids : ℕ → List ℕ} {S : Store} (v : V
 
     -- what is left of a count, with what the look finds, is what leads there from outside
     abbrev left : ℕ → ℕ
-    left r = sumOf (λ o. pick (among (o .home) rs) 0 (from L rs ls once r o)) (L .objects) + inFrames (homeIn L) r (take (L .counted) (L .frames))
+    left r = sumOf (λ o. pick (among (o .home) rs) 0 (fromOne L rs ls once r o)) (L .objects) + inFrames (homeIn L) r (take (L .counted) (L .frames))
 
     left-is : (r : ℕ) → outsideBut L rs r ≡ left r + inFrames (homeIn L) r (drop (L .counted) (L .frames))
     unfolding outsideBut inFrames

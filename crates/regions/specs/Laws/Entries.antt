@@ -63,6 +63,7 @@ entry-found r n h e =
     let f = find-found (λ i. eqb (nameAt r i) n) 64 64 e in
     rw (entry-find r n h) (f .0, eqb-true (nameAt r (findOr (λ i. eqb (nameAt r i) n) 64 (upTo 64))) n (f .1))
 
+-- the entry that a name is found at has that name, on any memory
 pub entry-named : (names : List ℕ) (n : ℕ) → entryIn names n < 64 → getD names (entryIn names n) 0 ≡ n
 unfolding entryIn
 entry-named names n = go (eqb n 0)

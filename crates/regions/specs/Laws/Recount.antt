@@ -25,6 +25,11 @@ pub record Beside (g h : Regions) : Type 0 where
 pub beside-same : (g : Regions) → Beside g g
 beside-same g = record { given = refl; names = refl; parents = refl; levels = refl; newest = refl; oldest = refl }
 
+-- lists that have each tag equally often move the counts alike
+pub recount-same : (g : Regions) (come a b : List ℕ) → ((u : ℕ) → times u a ≡ times u b) → recount g come a ≡ recount g come b
+unfolding recount
+recount-same g come a b h = ap (withCounts g) (moved-same (g .counts) come a come b (λ i l. refl) (λ i l. h (suc i)))
+
 module _ (g : Regions) (come gone : List ℕ) where
   pub recount-beside : Beside g (recount g come gone)
   unfolding recount withCounts
@@ -55,11 +60,6 @@ module _ (g : Regions) (come gone : List ℕ) where
   pub recount-below : All (λ x. x < 4294967296) ((recount g come gone) .counts)
   unfolding recount withCounts
   recount-below = all-places (λ x. x < 4294967296) (moved (g .counts) come gone) 0 (λ i l. moved-counts (g .counts) come gone .1 i)
-
--- lists that have each tag equally often move the counts alike
-pub recount-same : (g : Regions) (come a b : List ℕ) → ((u : ℕ) → times u a ≡ times u b) → recount g come a ≡ recount g come b
-unfolding recount
-recount-same g come a b h = ap (withCounts g) (moved-same (g .counts) come a come b (λ i l. refl) (λ i l. h (suc i)))
 
 -- the counts changed in place, one pointer after the other, are those of `recount`: pointers that leave, and others that enter after them
 module _ (g : Regions) (fits : Counts (g .counts)) where
