@@ -83,10 +83,14 @@ fn times(s: State, heap: &mut [u32], n: u32, number: u32, a: u32, b: u32, c: u32
     d
 }
 
-// A call, with no line.
-pub fn does(s: State, heap: &mut [u32], number: u32, a: u32, b: u32, c: u32) -> State {
-    let d = times(s, heap, 1, number, a, b, c);
+// A call made n times, with no line; and once.
+pub fn repeats(s: State, heap: &mut [u32], n: u32, number: u32, a: u32, b: u32, c: u32) -> State {
+    let d = times(s, heap, n, number, a, b, c);
     d.state
+}
+
+pub fn does(s: State, heap: &mut [u32], number: u32, a: u32, b: u32, c: u32) -> State {
+    repeats(s, heap, 1, number, a, b, c)
 }
 
 // A call made n times, with a line for the last, which begins with the call's number.
@@ -117,6 +121,26 @@ fn line_from(since: u32, place: u32, r: Reply) {
     }
 }
 
+// n regions, each in the one before, the first of them in `region`, at the place `first`, and named one more; a line for those from the place `since` on.
+pub fn nested(s: State, heap: &mut [u32], first: u32, since: u32, region: u32, n: u32) -> State {
+    let mut t = s;
+    let mut i: u32 = 0;
+    while i < n {
+        let d = called(
+            t,
+            heap,
+            SUBREGION,
+            std::num::wrapping_add_u32(region, i),
+            0,
+            0,
+        );
+        line_from(since, std::num::wrapping_add_u32(first, i), d.reply);
+        i += 1;
+        t = d.state;
+    }
+    t
+}
+
 // Delete all of these, with a line that begins with the call's place.
 pub fn deletes(s: State, heap: &mut [u32], place: u32, names: &[u32]) -> State {
     let d = store::delete_all(s, heap, names);
@@ -124,7 +148,8 @@ pub fn deletes(s: State, heap: &mut [u32], place: u32, names: &[u32]) -> State {
     d.state
 }
 
-// A session goes on: these calls, each its number and three arguments (delete_all's are its names, up to the first 0), the first of them at the place `first`; a line for those from the place `since` on, which begins with the call's place.
+// A session goes on: these calls, each its number and three arguments (delete_all's are its names, up to the first 0), the first of them at the place `first`; a line for those from
+// the place `since` on, which begins with the call's place.
 pub fn plays(s: State, heap: &mut [u32], first: u32, since: u32, calls: &[[u32; 4]]) -> State {
     let mut t = s;
     let mut place = first;
