@@ -9,10 +9,10 @@ use native.Mathlib.Omega.{arith}
 use lib.Dec.{eqb}
 use lib.ListN.{length, getD, take, drop}
 use lib.Seq.{take-take}
-use borrow.Author.Tests.{eqb-true}
+use borrow.Author.Tests.{eqb-true, eq-eqb}
 use Rattle.lists.specs.Lists.{bit, pick, sumOf, sumOf₂, keep, All, from, upTo, times, among, joined}
 use Rattle.lists.specs.Laws.Tests.{by-test, pick-same, eqb-sym}
-use Rattle.lists.specs.Laws.All.{all-map, all-both}
+use Rattle.lists.specs.Laws.All.{all-map}
 use Rattle.lists.specs.Laws.Sums.{sum-same, sum-map, sum-keep, sum-joined, sum-split}
 use Rattle.lists.specs.Laws.Finds.{times-keep, any-false}
 use Rattle.lists.specs.Laws.UpTo.{all-from, sum-below, sum-part}
@@ -33,6 +33,7 @@ use Rattle.pages.specs.declared.Pages.{Pages}
 use Rattle.pages.specs.Pages.{pageCount, ownerAt, ownerOf, pagesOf, freed, ownersTo}
 use Rattle.pages.specs.Laws.Gone.{gone-owner, gone-other, gone-pages, gone-held, gone-pointer, gone-free}
 use Rattle.objects.specs.Objects.{freeWordsOn, freeWordsOf, outOf}
+use Rattle.objects.specs.Laws.Leaving.{out-own}
 use Rattle.outcomes.specs.Store.{Store, frames, kinds, regions, pages, slotTargets}
 use Rattle.outcomes.specs.Outcome.{Accepted, withFrames, withRegions, withPages, recounted, outgoing, newlyIn, newlyCounted, deleted}
 use Rattle.refinement.specs.Represents.{spot, tagFor, Alive, wordsIn, FramesAgree, RegionsAgree, PagesAgree, RoomAgrees, Tiles, ObjectsAgree, Represents}
@@ -201,7 +202,7 @@ module _ {L : Model} {sp : List ℕ} {ids : ℕ → List ℕ} (S : Store) (v : V
       fill n m a = omega arith
 
   -- what leaves it: the words of another region r
-  pub gone-one : (r : ℕ) → livesIn L r ≡ true → eqb r q ≡ false → times (tagOf (regions S) q) (outOf ((pages S) .owners) (tagOf (regions S) r) (freeWordsOf (kinds S) (S .heap) (pages S) (tagOf (regions S) r))) ≡ fromRegion L r q
+  gone-one : (r : ℕ) → livesIn L r ≡ true → eqb r q ≡ false → times (tagOf (regions S) q) (outOf ((pages S) .owners) (tagOf (regions S) r) (freeWordsOf (kinds S) (S .heap) (pages S) (tagOf (regions S) r))) ≡ fromRegion L r q
   unfolding freeWordsOf outOf ownerOf fromRegion
   gone-one r m n =
       let P = pages S in
@@ -228,13 +229,22 @@ module _ {L : Model} {sp : List ℕ} {ids : ℕ → List ℕ} (S : Store) (v : V
           (λ z. tag-some (regions S) r (sym (eqb-true (ownerAt (pages S) j) (tagOf (regions S) r) e) ∙ z))))
           (λ e. rw e)
 
-  -- so of the regions that rs names
-  gone-are : (rs : List ℕ) → All (λ r. livesIn L r ≡ true) rs → among q rs ≡ false → times (tagOf (regions S) q) (outgoing S (map (tagOf (regions S)) rs)) ≡ fromRegions L rs q
-  unfolding outgoing fromRegions
-  gone-are rs ls n =
+  -- so of the regions that rs names, but for q itself, whose own words are in no count of it
+  pub gone-members : (rs : List ℕ) → All (λ r. livesIn L r ≡ true) rs → times (tagOf (regions S) q) (outgoing S (map (tagOf (regions S)) rs)) ≡ sumOf (λ r. pick (eqb r q) 0 (fromRegion L r q)) rs
+  unfolding outgoing
+  gone-members rs ls =
       sum-joined (λ t. bit (eqb t (tagOf (regions S) q))) _ (map (tagOf (regions S)) rs)
       ∙ sum-map _ (tagOf (regions S)) rs
-      ∙ sum-same _ _ rs (all-map (λ r k. gone-one r (k .0) (k .1)) rs (all-both _ _ rs ls (any-false (λ r. eqb r q) rs n)))
+      ∙ sum-same _ _ rs (all-map one rs ls)
+    where
+      one : (r : ℕ) → livesIn L r ≡ true → times (tagOf (regions S) q) (outOf ((pages S) .owners) (tagOf (regions S) r) (freeWordsOf (kinds S) (S .heap) (pages S) (tagOf (regions S) r))) ≡ pick (eqb r q) 0 (fromRegion L r q)
+      one r k = by-test (eqb r q)
+          (λ e. rw (eqb-true r q e, eq-eqb q q refl, out-own ((pages S) .owners) (tagOf (regions S) q) (freeWordsOf (kinds S) (S .heap) (pages S) (tagOf (regions S) q))))
+          (λ e. rw e (gone-one r k e))
+
+  gone-are : (rs : List ℕ) → All (λ r. livesIn L r ≡ true) rs → among q rs ≡ false → times (tagOf (regions S) q) (outgoing S (map (tagOf (regions S)) rs)) ≡ fromRegions L rs q
+  unfolding fromRegions
+  gone-are rs ls n = gone-members rs ls ∙ sum-same _ _ rs (all-map (λ r e. ap (λ b. pick b 0 (fromRegion L r q)) e) rs (any-false (λ r. eqb r q) rs n))
 
   -- no slot enters twice
   come-most : inFrames (homeIn L) q (newly L) ≤ inFrames (homeIn L) q (drop (L .counted) (L .frames))

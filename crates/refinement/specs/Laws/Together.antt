@@ -8,28 +8,25 @@ use native.Mathlib.Numerals.{add-one}
 use native.Mathlib.Omega.{arith}
 use lib.Dec.{eqb, ltb}
 use lib.ListN.{take, drop}
-use borrow.Author.Tests.{eqb-true, eqb-false, eq-eqb, ne-eqb, lt-ltb}
+use borrow.Author.Tests.{eqb-false, ne-eqb, lt-ltb}
 use Rattle.lists.specs.Lists.{bit, pick, anyOf, sumOf, All, upTo, times, among}
-use Rattle.lists.specs.Laws.Tests.{by-test, eqb-sym}
+use Rattle.lists.specs.Laws.Tests.{eqb-sym}
 use Rattle.lists.specs.Laws.All.{all-map}
-use Rattle.lists.specs.Laws.Sums.{sum-same, sum-map, sum-joined, sum-split}
+use Rattle.lists.specs.Laws.Sums.{sum-same, sum-split}
 use Rattle.lists.specs.Laws.Finds.{any-map, any-same, any-sum, any-count, any-swap, any-either, every-count, false-any}
 use Rattle.lists.specs.Laws.UpTo.{sum-below}
 use Rattle.model.specs.Model.{Model, livesIn, homeIn, parentIn, into, inFrames, outside, stored, closed, outsideBut}
 use Rattle.model.specs.Valid.{Valid}
-use Rattle.model.specs.Moves.{fromRegion}
 use Rattle.model.specs.Laws.Regions.{found-itself}
 use Rattle.model.specs.Laws.Counts.{outside-stored, words-parted, fromOne}
 use Rattle.regions.specs.declared.Regions.{Regions}
 use Rattle.regions.specs.Regions.{nameAt, entryOf, tagOf, parentAt, followsIn, closedIn}
-use Rattle.objects.specs.Objects.{freeWordsOf, outOf}
-use Rattle.objects.specs.Laws.Leaving.{out-own}
-use Rattle.outcomes.specs.Store.{Store, frames, kinds, regions, pages, targetsIn, slotTargets, uncountedIn, slotsBeyondIn, slotsBeyond, ledIn, ledInto, ledAmongIn, ledAmong}
+use Rattle.outcomes.specs.Store.{Store, frames, regions, pages, targetsIn, slotTargets, uncountedIn, slotsBeyondIn, slotsBeyond, ledIn, ledInto, ledAmongIn, ledAmong}
 use Rattle.outcomes.specs.Outcome.{outgoing, countBut}
 use Rattle.refinement.specs.Represents.{tagFor, RegionsAgree, Represents}
 use Rattle.refinement.specs.Laws.Tags.{Named, live-named, tag-among, zero-tag, entry-live, entry-own, parent-known}
 use Rattle.refinement.specs.Laws.Counts.{count-is, slots-beyond}
-use Rattle.refinement.specs.Laws.Delete.{gone-one}
+use Rattle.refinement.specs.Laws.Delete.{gone-members}
 
 -- ---- the look over the uncounted frames, of any memory: once for all members, it finds what it finds for one of them
 
@@ -106,19 +103,6 @@ module _ {L : Model} {sp : List ℕ} {ids : ℕ → List ℕ} {S : Store} (v : V
     abbrev ts : List ℕ
     ts = map (tagOf (regions S)) rs
 
-    -- the words of members that are in the count of r
-    gone-members : (r : ℕ) → livesIn L r ≡ true → times (tagOf (regions S) r) (outgoing S ts) ≡ sumOf (λ q. pick (eqb q r) 0 (fromRegion L q r)) rs
-    unfolding outgoing
-    gone-members r l =
-        sum-joined (λ t. bit (eqb t (tagOf (regions S) r))) _ ts
-        ∙ sum-map _ (tagOf (regions S)) rs
-        ∙ sum-same _ _ rs (all-map one rs ls)
-      where
-        one : (q : ℕ) → livesIn L q ≡ true → times (tagOf (regions S) r) (outOf ((pages S) .owners) (tagOf (regions S) q) (freeWordsOf (kinds S) (S .heap) (pages S) (tagOf (regions S) q))) ≡ pick (eqb q r) 0 (fromRegion L q r)
-        one q k = by-test (eqb q r)
-            (λ e. rw (eqb-true q r e, eq-eqb r r refl, out-own ((pages S) .owners) (tagOf (regions S) r) (freeWordsOf (kinds S) (S .heap) (pages S) (tagOf (regions S) r))))
-            (λ e. rw e (gone-one S v h r l q k e))
-
     -- what is left of a count, with what the look finds, is what leads there from outside
     abbrev left : ℕ → ℕ
     left r = sumOf (λ o. pick (among (o .home) rs) 0 (fromOne L rs ls once r o)) (L .objects) + inFrames (homeIn L) r (take (L .counted) (L .frames))
@@ -130,7 +114,7 @@ module _ {L : Model} {sp : List ℕ} {ids : ℕ → List ℕ} {S : Store} (v : V
     count-left : (r : ℕ) → livesIn L r ≡ true → countBut S ts (entryOf (regions S) r) ≡ left r
     unfolding countBut stored
     count-left r l = count-is (h .onRegions) r l [] (outgoing S ts) (left r)
-        (parts _ _ _ _ _ _ (gone-members r l) (words-parted L rs ls once r) (h .counts r l))
+        (parts _ _ _ _ _ _ (gone-members S v h r l rs ls) (words-parted L rs ls once r) (h .counts r l))
         (omega (arith, words-parted L rs ls once r, outside-stored L r, small r))
       where
         parts : (w f g x p c : ℕ) → x ≡ g → w + g ≡ p → c ≡ p + f → w + f + x ≡ c + 0
