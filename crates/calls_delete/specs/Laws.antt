@@ -1,3 +1,2 @@
--- A region's pages given up, and delete computed.
-pub mod Given
+-- Delete computed.
 pub mod Cases

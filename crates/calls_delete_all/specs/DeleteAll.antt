@@ -1,4 +1,4 @@
--- What keeps regions from being deleted together, as far as no page has to be scanned (document 02, card 2).
+-- What keeps regions from being deleted together, as far as it is asked before they are scanned (document 02, cards 2 and 3).
 -- Assumes nothing.
 use mathlib.Core.Bool.{Bool, not}
 use mathlib.Core.List.{List, [], _∷_, _++_}
@@ -8,7 +8,7 @@ use Rattle.regions.specs.Regions.{closedIn}
 use Rattle.pages.specs.Pages.{wrongLengthIn}
 use Rattle.members.specs.Members.{deadBy}
 
--- a heap of so many words, a list of names, the entries' names and the tags of the regions above; whether an uncounted slot leads into a member; the members by their tags
-unfoldable pub listTests : ℕ → ℕ → List ℕ → List ℕ → List ℕ → ((ℕ → Bool) → Bool) → (ℕ → Bool) → List (Bool × ℕ)
-listTests made words list names parents led member =
-    wrongLengthIn made words yields 21 ∷ wrongNames list yields 22 ∷ nameTests (deadBy names) list ++ (not (closedIn names parents member) yields 18 ∷ led member yields 19 ∷ [])
+-- a heap of so many words, a list of names, the entries' names and the tags of the regions above; the members by their tags
+unfoldable pub listTests : ℕ → ℕ → List ℕ → List ℕ → List ℕ → (ℕ → Bool) → List (Bool × ℕ)
+listTests made words list names parents member =
+    wrongLengthIn made words yields 21 ∷ wrongNames list yields 22 ∷ nameTests (deadBy names) list ++ (not (closedIn names parents member) yields 18 ∷ [])

@@ -1,31 +1,26 @@
-// The call delete_all: regions that go together.
+// The call delete_all: regions that go together. 19 comes after the scan (source document 000, chapter 4.3.1, on an array of regions): a reference from member to member keeps none of them; what is left
+// of a count, or a slot, does.
 use state::Done;
 use state::State;
 ghost use mathlib.Core.Path.{_≡_};
 ghost use mathlib.Core.List.{[], map};
 ghost use Rattle.model.specs.Model.{deleteAll};
 ghost use Rattle.model.specs.Calls.{reason};
-ghost use Rattle.outcomes.specs.Store.{ledAmongIn};
 ghost use Rattle.outcomes.specs.Outcome.{Outcome, answerOf, store};
 ghost use Rattle.lists.specs.Ticks.{tickAt, ticked};
 ghost use Rattle.members.specs.Members.{tagBy};
 ghost use Rattle.calls_delete_all.specs.DeleteAll.{listTests};
 
-// 21, 22, then 2 and 3 for each name, then 18, then of 19 what needs no scan: a slot of an uncounted frame. The regions named are ticked, where it gives 0.
+// 21, 22, then 2 and 3 for each name, then 18. The regions named are ticked, where it gives 0.
 fn list_refusal<'a>(
     made: u32,
     words: usize,
     list: &'a [u32],
     names: &'a [u32],
     parents: &'a [u8],
-    standing: u32,
-    counted: u32,
-    widths: &'a [u8],
-    slots: &'a [u32],
-    owners: &'a [u8],
     members: &mut [u8],
 ) -> u32
-    ensures { λ r. ⌜ (r ≡ reason (listTests made words (now (list .entry)) (now (names .entry)) (now (parents .entry)) (ledAmongIn standing counted (now (widths .entry)) (now (slots .entry)) (now (owners .entry))) (tickAt (ticked (now (members .entry)) (map (tagBy (now (names .entry))) (now (list .entry))))))) × (r ≡ 0 → now (members .exit) ≡ ticked (now (members .entry)) (map (tagBy (now (names .entry))) (now (list .entry)))) ⌝ }
+    ensures { λ r. ⌜ (r ≡ reason (listTests made words (now (list .entry)) (now (names .entry)) (now (parents .entry)) (tickAt (ticked (now (members .entry)) (map (tagBy (now (names .entry))) (now (list .entry))))))) × (r ≡ 0 → now (members .exit) ≡ ticked (now (members .entry)) (map (tagBy (now (names .entry))) (now (list .entry)))) ⌝ }
 {
     if pages::wrong_length(made, words) {
         return 21;
@@ -37,37 +32,29 @@ fn list_refusal<'a>(
     if g != 0 {
         return g;
     }
-    if !joint_parts::closed(names, parents, members) {
-        return 18;
-    }
-    if joint_parts::led(standing, counted, widths, slots, owners, members) {
-        19
-    } else {
+    if joint_parts::closed(names, parents, members) {
         0
+    } else {
+        18
     }
 }
 
-// Call 24 (document 02, card 2): the regions named go together, with their objects and pages, or none of them does. Their words leave a copy of the counts before the rest of 19 is
-// asked, so that a refusal has nothing to undo.
+// Call 24 (document 02, card 2): the regions named go together, with their objects and pages, or none of them does. The scan works on a copy of the counts, so that a refusal has
+// nothing to undo, and no page is given back before the call is accepted.
 pub fn delete_all(s: State, heap: &[u32], list: &[u32]) -> Done
     ensures { λ r. ⌜ Outcome (deleteAll (now (list .entry))) (store s (now (heap .entry))) (answerOf (r .reply) []) (store (r .state) (now (heap .entry))) ⌝ }
 {
     let mut t = s;
     let n = t.frames.standing;
     let m = t.frames.counted;
-    // a byte for each tag from 0 to 64
-    let mut members = [0u8; 65];
+    // a byte for each number that a page's owner can be
+    let mut members = [0u8; 256];
     let g = list_refusal(
         t.pages.made,
         heap.len(),
         list,
         &t.regions.names,
         &t.regions.parents,
-        n,
-        m,
-        &t.frames.widths,
-        &t.frames.slots,
-        &t.pages.owners,
         &mut members,
     );
     if g != 0 {
@@ -76,9 +63,9 @@ pub fn delete_all(s: State, heap: &[u32], list: &[u32]) -> Done
             reply: checks::refused(g),
         };
     }
+    // scanned, on a copy of the counts
     regions::counts_shaped(t.regions);
-    let mut c = t.regions.counts;
-    joint_parts::scan(
+    let mut c = apart::scan(
         t.kinds.declared,
         &t.kinds.sizes,
         &t.kinds.marks,
@@ -87,14 +74,24 @@ pub fn delete_all(s: State, heap: &[u32], list: &[u32]) -> Done
         &t.pages.owners,
         &t.pages.taken,
         &members,
-        &mut c,
+        t.regions.counts,
     );
-    if joint_parts::still_counted(&c, &members) {
+    // the rest of the check
+    if joint_parts::pointed_at(
+        n,
+        m,
+        &t.frames.widths,
+        &t.frames.slots,
+        &t.pages.owners,
+        &c,
+        &members,
+    ) {
         return Done {
             state: t,
             reply: checks::refused(19),
         };
     }
+    // the frames that m is raised over enter the counts, by the owners before any page is given back
     delete_parts::enter_frames(
         n,
         m,
@@ -103,7 +100,8 @@ pub fn delete_all(s: State, heap: &[u32], list: &[u32]) -> Done
         &t.pages.owners,
         &mut c,
     );
-    let number = joint_parts::give_back(t.pages.made, &mut t.pages.owners, &members);
+    // given back
+    let number = apart::give_back(t.pages.made, &mut t.pages.owners, &members);
     let mut r = t.regions;
     r.counts = c;
     t.regions = r;

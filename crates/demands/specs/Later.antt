@@ -1,20 +1,22 @@
--- What document 02's cards promise beside the demands, most of it after every list of calls from every start. Each is a type; the theorems are in Laws: Later for card 1, Together and JointOfOne for card 2.
+-- What document 02's cards promise beside the demands, most of it after every list of calls from every start. Each is a type; the theorems are in Laws: Later for card 1, Together and JointOfOne for card 2, Apart for card 3.
 -- Assumes nothing.
 use mathlib.Core.Path.{_≡_}
 use mathlib.Core.Logic.{_↔_, _≢_, _⊎_}
 use mathlib.Core.Bool.{Bool, true, not, _&&_, _||_}
-use mathlib.Core.List.{List, [], _∷_}
+use mathlib.Core.List.{List, [], _∷_, map}
 use Prim.Native.Nat.{ℕ, zero, suc, _-_, _≤_, _<_}
 use lib.Dec.{eqb}
 use lib.ListN.{length, getD}
 use Rattle.lists.specs.Lists.{bit, every, findOr, All, times}
-use Rattle.model.specs.Model.{Answer, setPointer, delete, deleteAll, marks, rule}
-use Rattle.regions.specs.Regions.{parentAt, entryOf, tagOf, subregionsOf}
-use Rattle.outcomes.specs.Store.{Store, regions, slot}
+use Rattle.model.specs.Model.{Answer, Call, setPointer, delete, deleteAll, marks, rule}
+use Rattle.regions.specs.Regions.{nameAt, parentAt, countAt, entryOf, tagOf, subregionsOf, withCounts}
+use Rattle.pages.specs.Pages.{pagesWith}
+use Rattle.outcomes.specs.Store.{Store, frames, kinds, regions, pages, slot}
 use Rattle.outcomes.specs.History.{History, begin, isLive, parentOf, aboveOf, pointersOf, at, homeOf}
 use Rattle.outcomes.specs.Sound.{soundLevels, soundDistinct, soundParents}
 use Rattle.outcomes.specs.Shape.{Sized, Bits32}
-use Rattle.outcomes.specs.Outcome.{Outcome, refusal}
+use Rattle.outcomes.specs.Outcome.{Outcome, refusal, countBut, withRegions}
+use Rattle.outcomes.specs.Apart.{Way, scanned, givenBack, scanThenGive, pageByPage, named, DeletesBy}
 use Rattle.outcomes.specs.Runs.{Event, Run}
 use Rattle.demands.specs.Told.{history}
 use Rattle.demands.specs.Demands.{Start}
@@ -89,3 +91,55 @@ unfoldable pub JointOfOne : Type 0
 JointOfOne =
     ((S : Store) → Bits32 ((regions S) .counts) → (r : ℕ) → SameAsDelete S r ↔ (OnlyItself S r → ⊥))
     × ((S : Store) (h : History) → Start S h → (es : List Event) (T : Store) → Run S es T → (r : ℕ) → SameAsDelete T r)
+
+-- ---- Card 3: a region taken apart
+
+-- The scan moves no page, on every memory and whichever regions are scanned: nothing but stored counts is other than it was. (That the function `scan` has no page to change, its types say.)
+unfoldable pub ScanMovesNoPage : Type 0
+ScanMovesNoPage =
+    (S : Store) (member : ℕ → Bool) → let T = scanned S member in
+    (pages T ≡ pages S) × (frames T ≡ frames S) × (kinds T ≡ kinds S) × (T .heap ≡ S .heap) × (regions T ≡ withCounts (regions S) ((regions T) .counts))
+
+-- the giving back moves no count: nothing but owners of pages is other than it was
+unfoldable pub GivingMovesNoCount : Type 0
+GivingMovesNoCount =
+    (S : Store) (member : ℕ → Bool) → let T = givenBack S member in
+    (regions T ≡ regions S) × (frames T ≡ frames S) × (kinds T ≡ kinds S) × (T .heap ≡ S .heap) × (pages T ≡ pagesWith ((pages S) .made) ((pages T) .owners) ((pages S) .taken))
+
+-- after the call's own checks, delete, or delete_all, has just the outcomes that a way of taking apart has
+abbrev pub DeleteIs : Way → Store → ℕ → Type 0
+DeleteIs way S r = (a : Answer) (T : Store) → Outcome (delete r) S a T ↔ DeletesBy way (refusal S (delete r)) (r ∷ []) S a T
+
+abbrev pub DeleteAllIs : Way → Store → List ℕ → Type 0
+DeleteAllIs way S rs = (a : Answer) (T : Store) → Outcome (deleteAll rs) S a T ↔ DeletesBy way (refusal S (deleteAll rs)) rs S a T
+
+-- Both calls have just the outcomes of a scan with a giving back after it, on every memory, audited or not, whose arrays have the lengths that their types say. And where no two of those named are one
+-- region, what 19 of a joint delete asks of a count is what the scan leaves of it, counts having 32 bits as their type says
+unfoldable pub ScansThenGives : Type 0
+ScansThenGives =
+    (S : Store) → Sized S
+    → ((r : ℕ) → DeleteIs scanThenGive S r)
+    × ((rs : List ℕ) → DeleteAllIs scanThenGive S rs)
+    × (Bits32 ((regions S) .counts) → (rs : List ℕ) → let ts = map (tagOf (regions S)) rs in ((t : ℕ) → times t ts ≤ 1) → (i : ℕ) → countBut S ts i ≡ countAt (regions (scanned S (named S rs))) i)
+
+-- T and U, which two ways leave of S, are equal but for stored counts, and these are equal at every entry that is in use afterwards, or was not before: they may differ only at an entry given up (named in
+-- S and not in T)
+abbrev pub OneButGone : Store → Store → Store → Type 0
+OneButGone S T U =
+    (T ≡ withRegions U (withCounts (regions U) ((regions T) .counts)))
+    × ((i : ℕ) → (nameAt (regions T) i ≢ 0) ⊎ (nameAt (regions S) i ≡ 0) → countAt (regions T) i ≡ countAt (regions U) i)
+
+-- a call has one outcome on each memory
+abbrev pub OneOutcome : Call → Type 0
+OneOutcome c = (S : Store) (a b : Answer) (T U : Store) → Outcome c S a T → Outcome c S b U → (a ≡ b) × (T ≡ U)
+
+-- Page by page, as delete went before, comes to the same on every memory, audited or not, whose arrays have those lengths: for one region in the answer and in every word of state and heap; for several,
+-- where no code went so, in the answer, and in every word but the counts at the entries given up, where words between members may have stayed counted. And each of the two calls has one outcome on each
+-- memory, whatever it holds: what code with the same contract gave and left before, it gives and leaves now
+unfoldable pub SameDelete : Type 0
+SameDelete =
+    ((S : Store) → Sized S
+    → ((r : ℕ) → DeleteIs pageByPage S r)
+    × ((rs : List ℕ) (a b : Answer) (T U : Store) → Outcome (deleteAll rs) S a T → DeletesBy pageByPage (refusal S (deleteAll rs)) rs S b U → (a ≡ b) × OneButGone S T U))
+    × ((r : ℕ) → OneOutcome (delete r))
+    × ((rs : List ℕ) → OneOutcome (deleteAll rs))

@@ -1,4 +1,2 @@
--- Laws, proved: nothing here has to be believed. One place more, one page more; and the definitions computed.
-pub mod Zeroed
-pub mod Out
+-- Laws, proved: nothing here has to be believed. The definitions computed.
 pub mod Cases

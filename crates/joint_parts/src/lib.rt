@@ -1,14 +1,11 @@
-// Several regions at once, ticked by tag: what keeps them from being deleted together, and what goes with them.
+// Several regions at once, ticked by tag: what keeps them from being deleted together, and the entries that go with them.
 ghost use mathlib.Core.Path.{_≡_};
-ghost use mathlib.Core.Bool.{not};
+ghost use mathlib.Core.Bool.{not, _||_};
 ghost use Prim.Native.Nat.{_<_};
-ghost use Rattle.kinds.specs.Kinds.{kindsWith};
 ghost use Rattle.regions.specs.Regions.{followsIn, closedIn};
-ghost use Rattle.regions.specs.Laws.Steps.{leavings};
-ghost use Rattle.pages.specs.Pages.{pageCountIn, pagesWith};
 ghost use Rattle.outcomes.specs.Store.{ledAmongIn};
 ghost use Rattle.lists.specs.Ticks.{tickAt};
-ghost use Rattle.joint_parts.specs.Joint.{stillCounted, outFrom, freedTo, heldBy, namesLeft};
+ghost use Rattle.joint_parts.specs.Joint.{stillCounted, namesLeft};
 
 // Whether entry e has a live region that is no member, right below one that is.
 fn stray<'a>(names: &'a [u32], parents: &'a [u8], members: &'a [u8], e: u32) -> bool
@@ -39,7 +36,7 @@ pub fn closed<'a>(names: &'a [u32], parents: &'a [u8], members: &'a [u8]) -> boo
 }
 
 // Whether some slot of an uncounted frame leads into a member. The first that does ends the look.
-pub fn led<'a>(
+fn led<'a>(
     standing: u32,
     counted: u32,
     widths: &'a [u8],
@@ -69,7 +66,7 @@ pub fn led<'a>(
 }
 
 // Whether some member's count is not 0.
-pub fn still_counted<'a>(counts: &'a [u32], members: &'a [u8]) -> bool
+fn still_counted<'a>(counts: &'a [u32], members: &'a [u8]) -> bool
     ensures { λ r. ⌜ r ≡ stillCounted (now (counts .entry)) (tickAt (now (members .entry))) ⌝ }
 {
     let mut i: u32 = 0;
@@ -84,47 +81,22 @@ pub fn still_counted<'a>(counts: &'a [u32], members: &'a [u8]) -> bool
     false
 }
 
-// The counts without the words marked 1 on the members' pages; a region's own words are in no count of it.
-pub fn scan<'a>(
-    declared: u32,
-    sizes: &'a [u8],
-    marks: &'a [u8],
-    heap: &[u32],
-    made: u32,
+// 19, asked once the scan has removed the members' references from the counts: whether a member is counted still, or a slot of an uncounted frame leads into one.
+pub fn pointed_at<'a>(
+    standing: u32,
+    counted: u32,
+    widths: &'a [u8],
+    slots: &'a [u32],
     owners: &'a [u8],
-    taken: &'a [u8],
+    counts: &'a [u32],
     members: &'a [u8],
-    counts: &mut [u32],
-)
-    ensures { λ _. ⌜ now (counts .exit) ≡ leavings (now (counts .entry)) (outFrom (kindsWith declared (now (sizes .entry)) (now (marks .entry))) (now (heap .entry)) (pagesWith made (now (owners .entry)) (now (taken .entry))) (tickAt (now (members .entry))) (pageCountIn made)) ⌝ }
+) -> bool
+    ensures { λ r. ⌜ r ≡ (stillCounted (now (counts .entry)) (tickAt (now (members .entry))) || ledAmongIn standing counted (now (widths .entry)) (now (slots .entry)) (now (owners .entry)) (tickAt (now (members .entry)))) ⌝ }
 {
-    let n = pages::page_count(made);
-    let mut j: u32 = 0;
-    while j < n {
-        let t = pages::owner_at(owners, j);
-        if members::is_member(members, t) {
-            let m = pages::taken_at(taken, j);
-            objects::leave_page(declared, sizes, marks, heap, owners, j, m, counts, t);
-        }
-        j += 1;
+    if still_counted(counts, members) {
+        return true;
     }
-}
-
-// The members' pages are free. Gives how many there were.
-pub fn give_back(made: u32, owners: &mut [u8; 256], members: &[u8]) -> u32
-    ensures { λ r. ⌜ (r ≡ heldBy (now (owners .entry)) (tickAt (now (members .entry))) (pageCountIn made)) × (now (owners .exit) ≡ freedTo (now (owners .entry)) (tickAt (now (members .entry))) (pageCountIn made)) ⌝ }
-{
-    let n = pages::page_count(made);
-    let mut number: u32 = 0;
-    let mut j: u32 = 0;
-    while j < n {
-        if members::is_member(members, pages::owner_at(owners, j)) {
-            pages::put_byte(owners, j, 0);
-            number += 1;
-        }
-        j += 1;
-    }
-    number
+    led(standing, counted, widths, slots, owners, members)
 }
 
 // The members' entries are given up.

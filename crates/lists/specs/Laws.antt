@@ -6,5 +6,6 @@ pub mod Finds
 pub mod UpTo
 pub mod Sets
 pub mod Ticks
+pub mod Zeroed
 pub mod Kept
 pub mod Every

@@ -1,9 +1,10 @@
 -- Small computing functions on lists: tests, sums, lookups. Nothing of the store.
 -- Assumes nothing.
 use mathlib.Core.Bool.{Bool, true, false, _&&_, _||_}
-use mathlib.Core.List.{List, [], _∷_, _++_}
+use mathlib.Core.List.{List, [], _∷_, _++_, map}
 use Prim.Native.Nat.{ℕ, zero, suc, _+_}
 use lib.Dec.{eqb}
+use lib.ListN.{length, getD}
 
 abbrev pub bit : Bool → ℕ
 bit true = 1
@@ -80,6 +81,10 @@ from k (suc n) = k ∷ from (suc k) n
 -- 0, 1, .. n - 1
 abbrev pub upTo : ℕ → List ℕ
 upTo n = from 0 n
+
+-- a list in which the elements at places that pass are 0
+unfoldable pub zeroed : (ℕ → Bool) → List ℕ → List ℕ
+zeroed passes l = map (λ j. pick (passes j) 0 (getD l j 0)) (upTo (length l))
 
 -- how often n stands in a list, and whether it does
 abbrev pub times : ℕ → List ℕ → ℕ

@@ -59,7 +59,7 @@ fn name_refusal(e: u32, n: u32) -> u32
     if n == 1 { 3 } else { 0 }
 }
 
-// Ticks the regions that the list names; a dead name has tag 65 and ticks none. Gives the first 2 or 3 that a name has, 0 where none has one.
+// Ticks the regions that the list names; a dead name has tag 65, which is no region's. Gives the first 2 or 3 that a name has, 0 where none has one.
 pub fn tick<'a>(names: &'a [u32], list: &'a [u32], members: &mut [u8]) -> u32
     ensures { λ r. ⌜ (r ≡ reason (nameTests (deadBy (now (names .entry))) (now (list .entry)))) × (now (members .exit) ≡ ticked (now (members .entry)) (map (tagBy (now (names .entry))) (now (list .entry)))) ⌝ }
 {

@@ -3,6 +3,9 @@ pub mod Decided
 pub mod Examples
 pub mod Cases
 pub mod Steps
+pub mod Apart
+pub mod Deleted
+pub mod ApartCases
 pub mod Sized
 pub mod Bounded
 pub mod Values

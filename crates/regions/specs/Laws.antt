@@ -5,6 +5,7 @@ pub mod Counts
 pub mod Named
 pub mod Added
 pub mod Removed
+pub mod Tags
 pub mod Steps
 pub mod Recount
 pub mod Cases

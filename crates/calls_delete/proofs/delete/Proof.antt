@@ -1,5 +1,6 @@
-use mathlib.Core.Path.{refl, _∙_}
+use mathlib.Core.Path.{_≡_, refl}
 use native.Mathlib.Omega.{arith}
+use lib.ListN.{length}
 use borrow.Author.Needs.{needs}
 use Rattle.frames.specs.Frames.{topFrame, raised}
 use Rattle.regions.specs.Regions.{withCounts, withoutRegions}
@@ -9,6 +10,29 @@ use Rattle.calls_delete.proofs.Laws.{delete-second, delete-effect}
 use Rattle.calls_delete.proofs.delete.Statement.{statement}
 use Rattle.calls_delete.proofs.delete.Tie as tie
 
+-- places that were passed
+abbrev frames-entered : tie.After-give-back → tie.After-enter-frames
+frames-entered c = c .before .before .before .before
+
+abbrev scanned : tie.After-enter-frames → tie.After-scan
+scanned c = c .before .before .before .before .before .before .before .before .before
+
+abbrev shaped : tie.After-scan → tie.After-counts-shaped
+shaped c = c .before .before .before .before .before .before .before .before
+
+abbrev ticked : tie.After-counts-shaped → tie.After-store-byte
+ticked c = c .before .before .before
+
+abbrev found : tie.After-delete-refusal → tie.After-entry-of
+found c = c .before .before .before .before .before .before .before .before .before .before .before .before .before .before
+
+abbrev began : tie.After-entry-of → tie.Start
+began c = c .before .before .before .before .before
+
+-- what the types say
+pages-listed : (c : tie.Start) → length (c .args .s .pages .owners) ≡ 256
+pages-listed c = search needs
+
 add-tag : tie.Need-add-tag
 add-tag c =
     let a = c .before .before .before .before .before .args in
@@ -16,23 +40,42 @@ add-tag c =
 
 returns : tie.Need-returns
 returns c =
-    let t = c .before .before in
-    let e = t .before .before .before .before .before .before .before .before .before .before .before .before .before .before in
-    by-refusal _ _ _ _ _ (delete-second _ _ _ _ (e .entry-of .ensures) (t .delete-refusal .ensures)) (c .before .if1 .taken) (c .refused .ensures) refl
+    let d = c .before .before in
+    by-refusal _ _ _ _ _ (delete-second _ _ _ _ (found d .entry-of .ensures) (d .delete-refusal .ensures)) (c .before .if1 .taken) (c .refused .ensures) refl
 
 returns-2 : tie.Need-returns-2
 unfolding raised topFrame withCounts withoutRegions
 returns-2 c =
     let t = c .before .before in
     let w = t .before in
-    let f = w .before .before .before .before .before in
-    let g = f .before .before .before .before .before .before .before .before .before .before .before in
-    let z = g .before .before .before .before .before .before .before .before .before .before .before .before in
-    let i = z .before .before in
-    let e = i .before .before .before .before .before .before .before .before .before .before .before .before .before .before .before in
-    let h = g .give-pages .ensures in
-    delete-effect _ _ _ _ (e .entry-of .ensures) (i .before .delete-refusal .ensures) _ _ _ _ _ (i .if1 .left) (c .gives .ensures) (h .0) (z .counts-shaped .ensures) (h .1) (f .enter-frames .ensures ∙ rw (h .2))
-    (rw (t .top .ensures)) refl (rw (w .put-word .ensures)) refl refl
+    let b = w .before .before .before in
+    let f = frames-entered b in
+    let s = scanned f in
+    let z = shaped s in
+    let k = ticked z in
+    let i = k .before .before in
+    let e = found (i .before) in
+    delete-effect _ _ _ _ (e .entry-of .ensures) (i .before .delete-refusal .ensures) (i .if1 .left) _ _ _ _ _ _ _ (c .gives .ensures) (z .counts-shaped .ensures) (pages-listed (began e)) (k .store-byte .ensures)
+    (s .scan .ensures) (f .enter-frames .ensures) (b .give-back .ensures) (rw (t .top .ensures)) refl (rw (w .put-word .ensures)) refl refl
 
 pub delete-spec : {M : Type 1} → statement M
-delete-spec = tie.close (tie.spec (λ c κs. search needs) add-tag (λ c κs. search needs) (λ c κs. search needs) returns (λ c κs. search needs) (λ c. search needs) (λ c. search needs) (λ c κs. search needs) (λ c. search needs) (λ c κs. search needs) (λ c κs. search needs) (λ c κs. search needs) (λ c κs. search needs) returns-2)
+delete-spec =
+    tie.close
+    (tie.spec
+    (λ c κs. search needs)
+    add-tag
+    (λ c κs. search needs)
+    (λ c κs. search needs)
+    returns
+    (λ c. search needs)
+    (λ c. search needs)
+    (λ c κs. search needs)
+    (λ c κs. search needs)
+    (λ c κs. search needs)
+    (λ c. search needs)
+    (λ c κs. search needs)
+    (λ c κs. search needs)
+    (λ c κs. search needs)
+    (λ c κs. search needs)
+    (λ c κs. search needs)
+    returns-2)

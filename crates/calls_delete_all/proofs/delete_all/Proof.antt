@@ -13,20 +13,20 @@ use Rattle.calls_delete_all.proofs.delete_all.Tie as tie
 abbrev frames-entered : tie.After-give-back → tie.After-enter-frames
 frames-entered c = c .before .before .before .before
 
-abbrev asked : tie.After-enter-frames → tie.After-still-counted
+abbrev asked : tie.After-enter-frames → tie.After-pointed-at
 asked c = c .before .before .before .before .before .before .before .before .before .before
 
-abbrev scanned : tie.After-still-counted → tie.After-scan
-scanned c = c .before .before .before .before
+abbrev scanned : tie.After-pointed-at → tie.After-scan
+scanned c = c .before .before .before .before .before .before .before .before .before .before
 
 abbrev shaped : tie.After-scan → tie.After-counts-shaped
-shaped c = c .before .before .before .before .before .before .before .before .before .before .before .before .before
+shaped c = c .before .before .before .before .before .before .before .before
 
 abbrev ticked : tie.After-counts-shaped → tie.After-members2
 ticked c = c .before .before .before
 
 abbrev began : tie.After-members2 → tie.Start
-began c = c .before .before .before .before .before .before .before .before .before .before .before .before .before .before .before .before
+began c = c .before .before .before .before .before .before .before .before .before .before
 
 -- what the types say
 pages-listed : (c : tie.Start) → length (c .args .s .pages .owners) ≡ 256
@@ -48,7 +48,7 @@ returns-2 c =
     let l = ticked z in
     let a = began l .args in
     delete-all-pointed (store (a .s) (a .heap .now)) (a .list .now) _ (l .before .list-refusal .ensures .0) (z .before .before .if1 .left) _ _ _ (l .before .list-refusal .ensures .1) (z .counts-shaped .ensures) (s .scan .ensures)
-    (p .still-counted .ensures) _ _ (c .before .if2 .taken) (c .refused2 .ensures) refl
+    (p .pointed-at .ensures) _ _ (c .before .if2 .taken) (c .refused2 .ensures) refl
 
 returns-3 : tie.Need-returns-3
 returns-3 c =
@@ -62,7 +62,7 @@ returns-3 c =
     let l = ticked z in
     let a = began l .args in
     delete-all-effect (store (a .s) (a .heap .now)) (a .list .now) _ (l .before .list-refusal .ensures .0) (z .before .before .if1 .left) _ _ _ (l .before .list-refusal .ensures .1) (z .counts-shaped .ensures) (s .scan .ensures)
-    (p .still-counted .ensures) _ _ _ _ _ _ (e .before .before .before .before .before .before .before .before .before .if2 .left) (c .gives .ensures) (pages-listed (began l)) (e .enter-frames .ensures) (b .give-back .ensures .0) (b .give-back .ensures .1) (u .give-up .ensures)
+    (p .pointed-at .ensures) _ _ _ _ _ _ (e .before .before .before .before .before .before .before .before .before .if2 .left) (c .gives .ensures) (pages-listed (began l)) (e .enter-frames .ensures) (b .give-back .ensures) (u .give-up .ensures)
     (raised-by _ _ (t .top .ensures)) refl refl refl refl
 
 pub delete-all-spec : {M : Type 1} → statement M
@@ -74,8 +74,6 @@ delete-all-spec =
     (λ c κs. search needs)
     returns
     (λ c κs. search needs)
-    (λ c. search needs)
-    (λ c. search needs)
     (λ c κs. search needs)
     (λ c. search needs)
     (λ c. search needs)
@@ -84,7 +82,6 @@ delete-all-spec =
     returns-2
     (λ c. search needs)
     (λ c κs. search needs)
-    (λ c. search (needs, ticked (shaped (scanned (asked (c .before .before .before)))) .members2 .given))
     (λ c κs. search needs)
     (λ c. search (needs, ticked (shaped (scanned (asked (frames-entered (c .before .before .before))))) .members2 .given))
     (λ c κs. search needs)

@@ -1,6 +1,6 @@
 use mathlib.Core.Path.{_≡_, refl, sym, _∙_}
 use mathlib.Core.Bool.{Bool, false, not}
-use mathlib.Core.List.{List, [], _∷_, append-nil}
+use mathlib.Core.List.{List, [], _∷_, map, append-nil}
 use Prim.Native.Nat.{ℕ}
 use native.Mathlib.Omega.{arith}
 use lib.Dec.{ltb}
@@ -13,72 +13,57 @@ use Rattle.regions.specs.Regions.{closedIn}
 use Rattle.pages.specs.Pages.{wrongLengthIn}
 use Rattle.outcomes.specs.Laws.Steps.{reason-append}
 use Rattle.checks.specs.Checks.{firstRefusal}
-use Rattle.members.specs.Members.{deadBy}
+use Rattle.lists.specs.Ticks.{tickAt, ticked}
+use Rattle.members.specs.Members.{tagBy, deadBy}
 use Rattle.calls_delete_all.specs.DeleteAll.{listTests}
 use Rattle.calls_delete_all.proofs.list_refusal.Statement.{statement}
 use Rattle.calls_delete_all.proofs.list_refusal.Tie as tie
 
 -- the first test that holds decides
-in-order : (made words : ℕ) (list names parents : List ℕ) (led : (ℕ → Bool) → Bool) (member : ℕ → Bool)
-    → reason (listTests made words list names parents led member) ≡ pick (wrongLengthIn made words) 21 (pick (wrongNames list) 22 (firstRefusal (reason (nameTests (deadBy names) list)) (pick (not (closedIn names parents member)) 18 (pick (led member) 19 0))))
+in-order : (made words : ℕ) (list names parents : List ℕ) (member : ℕ → Bool)
+    → reason (listTests made words list names parents member) ≡ pick (wrongLengthIn made words) 21 (pick (wrongNames list) 22 (firstRefusal (reason (nameTests (deadBy names) list)) (pick (not (closedIn names parents member)) 18 0)))
 unfolding listTests
-in-order made words list names parents led member =
+in-order made words list names parents member =
     let ts = nameTests (deadBy names) list in
-    rw (reason-append ts (not (closedIn names parents member) yields 18 ∷ led member yields 19 ∷ []) (rw (append-nil ts) at (names-numbers (ltb 0) refl refl (deadBy names) list [] refl)))
+    rw (reason-append ts (not (closedIn names parents member) yields 18 ∷ []) (rw (append-nil ts) at (names-numbers (ltb 0) refl refl (deadBy names) list [] refl)))
 
 returns : tie.Need-returns
-returns c = (sym (in-order _ _ _ _ _ _ _ ∙ rw (← c .before .wrong-length .ensures, c .if1 .taken)), λ e. absurd (omega arith))
+returns c = (sym (in-order _ _ _ _ _ _ ∙ rw (← c .before .wrong-length .ensures, c .if1 .taken)), λ e. absurd (omega arith))
 
 returns-2 : tie.Need-returns-2
-returns-2 c = (sym (in-order _ _ _ _ _ _ _ ∙ rw (← c .before .before .before .wrong-length .ensures, c .before .before .if1 .left, ← c .before .wrong-names .ensures, c .if2 .taken)), λ e. absurd (omega arith))
+returns-2 c = (sym (in-order _ _ _ _ _ _ ∙ rw (← c .before .before .before .wrong-length .ensures, c .before .before .if1 .left, ← c .before .wrong-names .ensures, c .if2 .taken)), λ e. absurd (omega arith))
 
 returns-3 : tie.Need-returns-3
 returns-3 c =
     let m = c .before .before .before in
     let n = m .before .before .before in
     let w = n .before .before in
-    (sym (in-order _ _ _ _ _ _ _ ∙ rw (← w .wrong-length .ensures, n .before .if1 .left, ← n .wrong-names .ensures, m .before .before .if2 .left, ← m .tick .ensures .0, ne-eqb _ _ (c .if3 .taken))), λ e. absurd (c .if3 .taken e))
+    (sym (in-order _ _ _ _ _ _ ∙ rw (← w .wrong-length .ensures, n .before .if1 .left, ← n .wrong-names .ensures, m .before .before .if2 .left, ← m .tick .ensures .0, ne-eqb _ _ (c .if3 .taken))), λ e. absurd (c .if3 .taken e))
 
--- the tests that are left where the length and the names pass
-module _ (made words : ℕ) (list names parents : List ℕ) (led : (ℕ → Bool) → Bool) (member : ℕ → Bool) where
+-- the test that is left where the length and the names pass
+module _ (made words : ℕ) (list names parents : List ℕ) (member : ℕ → Bool) where
   past : (a b : Bool) (g : ℕ) → a ≡ wrongLengthIn made words → a ≡ false → b ≡ wrongNames list → b ≡ false → g ≡ reason (nameTests (deadBy names) list) → g ≡ 0
-      → reason (listTests made words list names parents led member) ≡ pick (not (closedIn names parents member)) 18 (pick (led member) 19 0)
-  past a b g ea a₀ eb b₀ eg g₀ = in-order made words list names parents led member ∙ rw (← ea, a₀, ← eb, b₀, ← eg, g₀)
+      → reason (listTests made words list names parents member) ≡ pick (not (closedIn names parents member)) 18 0
+  past a b g ea a₀ eb b₀ eg g₀ = in-order made words list names parents member ∙ rw (← ea, a₀, ← eb, b₀, ← eg, g₀)
+
+-- that test, on the ticks as they are then
+asked :
+    (c : tie.After-closed) →
+    let m = c .before .before .before .before .before in
+    let a = m .before .before .before .before .before .before .before .before .before .before .args in
+    reason (listTests (a .made) (a .words) (a .list .now) (a .names .now) (a .parents .now) (tickAt (ticked (a .members .now) (map (tagBy (a .names .now)) (a .list .now))))) ≡ pick (not (c .closed .result)) 18 0
+asked c =
+    let m = c .before .before .before .before .before in
+    let n = m .before .before .before in
+    let w = n .before .before in
+    past _ _ _ _ _ _ _ _ _ (w .wrong-length .ensures) (n .before .if1 .left) (n .wrong-names .ensures) (m .before .before .if2 .left) (m .tick .ensures .0) (c .before .before .if3 .left)
+    ∙ rw (← m .tick .ensures .1, ← c .closed .ensures)
 
 returns-4 : tie.Need-returns-4
-returns-4 c =
-    let d = c .before in
-    let m = d .before .before .before .before .before in
-    let n = m .before .before .before in
-    let w = n .before .before in (
-      sym (past _ _ _ _ _ _ _ _ _ _ (w .wrong-length .ensures) (n .before .if1 .left) (n .wrong-names .ensures) (m .before .before .if2 .left) (m .tick .ensures .0) (d .before .before .if3 .left)
-          ∙ rw (← m .tick .ensures .1, ← d .closed .ensures, c .if4 .taken)),
-      λ e. absurd (omega arith),
-    )
+returns-4 c = (sym (asked (c .before) ∙ rw (c .if4 .taken)), λ e. c .before .before .before .before .before .before .tick .ensures .1)
 
 returns-5 : tie.Need-returns-5
-returns-5 c =
-    let l = c .before in
-    let d = l .before .before .before in
-    let m = d .before .before .before .before .before in
-    let n = m .before .before .before in
-    let w = n .before .before in (
-      sym (past _ _ _ _ _ _ _ _ _ _ (w .wrong-length .ensures) (n .before .if1 .left) (n .wrong-names .ensures) (m .before .before .if2 .left) (m .tick .ensures .0) (d .before .before .if3 .left)
-          ∙ rw (← m .tick .ensures .1, ← d .closed .ensures, l .before .before .if4 .left, ← l .led .ensures, c .if5 .taken)),
-      λ e. absurd (omega arith),
-    )
-
-returns-6 : tie.Need-returns-6
-returns-6 c =
-    let l = c .before in
-    let d = l .before .before .before in
-    let m = d .before .before .before .before .before in
-    let n = m .before .before .before in
-    let w = n .before .before in (
-      sym (past _ _ _ _ _ _ _ _ _ _ (w .wrong-length .ensures) (n .before .if1 .left) (n .wrong-names .ensures) (m .before .before .if2 .left) (m .tick .ensures .0) (d .before .before .if3 .left)
-          ∙ rw (← m .tick .ensures .1, ← d .closed .ensures, l .before .before .if4 .left, ← l .led .ensures, c .if5 .left)),
-      λ e. m .tick .ensures .1,
-    )
+returns-5 c = (sym (asked (c .before) ∙ rw (c .if4 .left)), λ e. absurd (omega arith))
 
 pub list-refusal-spec : {M : Type 1} → statement M
-list-refusal-spec = tie.close (tie.spec (λ c κs. search needs) returns (λ c κs. search needs) returns-2 (λ c κs. search needs) (λ c. search needs) returns-3 (λ c κs. search needs) (λ c. search needs) returns-4 (λ c κs. search needs) (λ c. search needs) returns-5 (λ c. search needs) returns-6)
+list-refusal-spec = tie.close (tie.spec (λ c κs. search needs) returns (λ c κs. search needs) returns-2 (λ c κs. search needs) (λ c. search needs) returns-3 (λ c κs. search needs) (λ c. search needs) returns-4 (λ c. search needs) returns-5)

@@ -14,20 +14,22 @@ use Rattle.lists.specs.Laws.All.{all-map}
 use Rattle.model.specs.Model.{deleteAll}
 use Rattle.model.specs.Calls.{reason, _yields_, wrongNames, nameTests}
 use Rattle.model.specs.Laws.Passed.{positive, all-passed, names-numbers, names-passed, names-agree}
+use Rattle.regions.specs.declared.Regions.{Regions}
 use Rattle.regions.specs.Regions.{entryOf, tagOf, isLive, closedIn, countAt, withCounts}
 use Rattle.regions.specs.Laws.Counts.{Counts}
-use Rattle.regions.specs.Laws.Steps.{leavings}
-use Rattle.pages.specs.Pages.{wrongLengthIn, wrongLength, pageCountIn}
-use Rattle.outcomes.specs.Store.{Store, frames, kinds, regions, pages, ledAmongIn, ledAmong}
+use Rattle.regions.specs.Laws.Tags.{tags-once}
+use Rattle.pages.specs.Pages.{wrongLengthIn, wrongLength}
+use Rattle.outcomes.specs.Store.{Store, frames, regions, pages, ledAmongIn, ledAmong}
 use Rattle.outcomes.specs.Outcome.{badLength, dead, countBut, checks, refusal}
+use Rattle.outcomes.specs.Apart.{scanned}
 use Rattle.outcomes.specs.Laws.Steps.{reason-append}
+use Rattle.outcomes.specs.Laws.Deleted.{scan-leaves, left-are}
 use Rattle.checks.specs.Checks.{firstRefusal}
 use Rattle.checks.specs.Laws.Tests.{else-first, else-next}
 use Rattle.members.specs.Members.{deadBy}
-use Rattle.joint_parts.specs.Joint.{stillCounted, outFrom}
+use Rattle.joint_parts.specs.Joint.{stillCounted}
 use Rattle.calls_delete_all.specs.DeleteAll.{listTests}
-use Rattle.calls_delete_all.specs.Laws.Tags.{tags-once}
-use Rattle.calls_delete_all.specs.Laws.Counted.{left-are, still-are}
+use Rattle.calls_delete_all.specs.Laws.Gone.{still-are}
 
 module _ (S : Store) (rs : List ℕ) where
   -- those named live, and their tags
@@ -37,12 +39,9 @@ module _ (S : Store) (rs : List ℕ) where
   abbrev pub tags : List ℕ
   tags = map (tagOf (regions S)) rs
 
-  -- the tests that need no scan, with members by their tags
-  abbrev look : (ℕ → Bool) → Bool
-  look = let f = frames S in ledAmongIn (f .standing) (f .counted) (f .widths) (f .slots) ((pages S) .owners)
-
+  -- the tests before the scan, with members by their tags
   abbrev pub firsts : (ℕ → Bool) → List (Bool × ℕ)
-  firsts = listTests ((pages S) .made) (length (S .heap)) rs ((regions S) .names) ((regions S) .parents) look
+  firsts = listTests ((pages S) .made) (length (S .heap)) rs ((regions S) .names) ((regions S) .parents)
 
   firsts-numbers : (member : ℕ → Bool) → every positive (firsts member) ≡ true
   unfolding listTests
@@ -63,30 +62,21 @@ module _ (S : Store) (rs : List ℕ) where
   firsts-same : (m n : ℕ → Bool) → (Live → m ≡ n) → reason (firsts m) ≡ reason (firsts n)
   unfolding listTests
   firsts-same m n h =
-      let last : (ℕ → Bool) → List (Bool × ℕ) = λ m. not (closedIn ((regions S) .names) ((regions S) .parents) m) yields 18 ∷ look m yields 19 ∷ [] in
+      let last : (ℕ → Bool) → List (Bool × ℕ) = λ m. not (closedIn ((regions S) .names) ((regions S) .parents) m) yields 18 ∷ [] in
       let gone = deadBy ((regions S) .names) in
       ap (λ n. pick (wrongLengthIn ((pages S) .made) (length (S .heap))) 21 (pick (wrongNames rs) 22 n))
       (names-agree gone gone (λ r. refl) rs (last m) (last n) (λ ns. ap (λ m. reason (last m)) (h (names-live ns))))
 
-  -- something is left of a member's count: the other half of the call's last test
-  abbrev pub countLeft : Bool
-  countLeft = anyOf (λ r. not (eqb (countBut S tags (entryOf (regions S) r)) 0)) rs
+  -- the call's last test: something is left of a member's count, or a slot of an uncounted frame leads into one
+  abbrev pub pointed : Bool
+  pointed = anyOf (λ r. not (eqb (countBut S tags (entryOf (regions S) r)) 0)) rs || ledAmong S tags
 
-  tests-are : refusal S (deleteAll rs) ≡ firstRefusal (reason (firsts (λ t. among t tags))) (pick countLeft 19 0)
-  unfolding refusal checks listTests badLength wrongLength dead isLive entryOf deadBy ledAmong
+  tests-are : refusal S (deleteAll rs) ≡ firstRefusal (reason (firsts (λ t. among t tags))) (pick pointed 19 0)
+  unfolding refusal checks listTests badLength wrongLength dead isLive entryOf deadBy
   tests-are =
       let strays = not (closedIn ((regions S) .names) ((regions S) .parents) (λ t. among t tags)) in
-      let led = ledAmong S tags in
-      ap (λ n. pick (badLength S) 21 (pick (wrongNames rs) 22 n))
-      (names-agree (dead S) (dead S) (λ r. refl) rs (strays yields 18 ∷ (countLeft || led) yields 19 ∷ []) (strays yields 18 ∷ led yields 19 ∷ countLeft yields 19 ∷ []) (λ ns. ap (pick strays 18) (halves countLeft led)))
-      ∙ ap (λ l. reason (badLength S yields 21 ∷ wrongNames rs yields 22 ∷ l)) (sym (append-assoc (nameTests (dead S) rs) (strays yields 18 ∷ led yields 19 ∷ []) (countLeft yields 19 ∷ [])))
-      ∙ reason-append (firsts (λ t. among t tags)) (countLeft yields 19 ∷ []) (firsts-numbers (λ t. among t tags))
-    where
-      -- 19 by either half
-      halves : (a b : Bool) → pick {A = ℕ} (a || b) 19 0 ≡ pick b 19 (pick a 19 0)
-      halves true true = refl
-      halves true false = refl
-      halves false b = refl
+      ap (λ l. reason (badLength S yields 21 ∷ wrongNames rs yields 22 ∷ l)) (sym (append-assoc (nameTests (dead S) rs) (strays yields 18 ∷ []) (pointed yields 19 ∷ [])))
+      ∙ reason-append (firsts (λ t. among t tags)) (pointed yields 19 ∷ []) (firsts-numbers (λ t. among t tags))
 
   -- g is what the first tests gave, with members that are those named where these live
   module _ (member : ℕ → Bool) (marked : Live → member ≡ (λ t. among t tags)) (g : ℕ) (asked : g ≡ reason (firsts member)) where
@@ -94,11 +84,11 @@ module _ (S : Store) (rs : List ℕ) where
     asked-same = asked ∙ firsts-same member (λ t. among t tags) marked
 
     pub refused-first : g ≢ 0 → refusal S (deleteAll rs) ≡ g
-    refused-first z = tests-are ∙ else-first _ g (pick countLeft 19 0) asked-same z
+    refused-first z = tests-are ∙ else-first _ g (pick pointed 19 0) asked-same z
 
     module _ (z : g ≡ 0) where
-      pub passed-first : refusal S (deleteAll rs) ≡ pick countLeft 19 0
-      passed-first = tests-are ∙ else-next _ g (pick countLeft 19 0) asked-same z
+      pub passed-first : refusal S (deleteAll rs) ≡ pick pointed 19 0
+      passed-first = tests-are ∙ else-next _ g (pick pointed 19 0) asked-same z
 
       pub passed-live : Live
       passed-live = firsts-passed member (sym asked ∙ z) .1
@@ -106,10 +96,11 @@ module _ (S : Store) (rs : List ℕ) where
       pub passed-once : (t : ℕ) → times t tags ≤ 1
       passed-once = tags-once (regions S) rs passed-live (firsts-passed member (sym asked ∙ z) .0)
 
-  -- that half, by the counts that are left without the members' words
-  pub count-left-is : Live → ((t : ℕ) → times t tags ≤ 1) → Counts ((regions S) .counts)
-      → let m : ℕ → Bool = λ t. among t tags in
-      stillCounted (leavings ((regions S) .counts) (outFrom (kinds S) (S .heap) (pages S) m (pageCountIn ((pages S) .made)))) m ≡ countLeft
-  unfolding countBut countAt withCounts
-  count-left-is live once fits =
-      still-are (regions S) rs _ live ∙ ap (λ g. anyOf (λ r. not (eqb (countAt g (entryOf (regions S) r)) 0)) rs) (left-are S tags once fits)
+  -- that test, by the counts cs that the scan has left
+  pub pointed-is : Live → ((t : ℕ) → times t tags ≤ 1) → Counts ((regions S) .counts) → (cs : List ℕ)
+      → let f = frames S in let m : ℕ → Bool = λ t. among t tags in cs ≡ (regions (scanned S m)) .counts
+      → (stillCounted cs m || ledAmongIn (f .standing) (f .counted) (f .widths) (f .slots) ((pages S) .owners) m) ≡ pointed
+  unfolding countBut countAt withCounts ledAmong
+  pointed-is live once fits cs e =
+      let some : Regions → Bool = λ g. anyOf (λ r. not (eqb (countAt g (entryOf (regions S) r)) 0)) rs in
+      ap (λ b. b || ledAmong S tags) (still-are (regions S) rs live cs ∙ ap (λ c. some (withCounts (regions S) c)) (e ∙ ap (λ g. g .counts) (scan-leaves S (λ t. among t tags) fits)) ∙ ap some (left-are S tags once fits))

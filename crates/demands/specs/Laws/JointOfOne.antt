@@ -20,8 +20,8 @@ use Rattle.model.specs.Model.{Model, delete, deleteAll, gives, refusedBy}
 use Rattle.model.specs.Calls.{wrongNames, nameTests}
 use Rattle.model.specs.Laws.Paged.{stored-bound}
 use Rattle.regions.specs.declared.Regions.{Regions}
-use Rattle.regions.specs.Regions.{nameAt, entryIn, entryOf, tagOf, isLive, parentAt, levelAt, subregionsIn, subregionsOf, followsIn, closedIn, countAt}
-use Rattle.regions.specs.Laws.Entries.{entry-named}
+use Rattle.regions.specs.Regions.{nameAt, entryOf, tagOf, isLive, parentAt, levelAt, subregionsIn, subregionsOf, followsIn, closedIn, countAt}
+use Rattle.regions.specs.Laws.Entries.{entry-used}
 use Rattle.regions.specs.Laws.Recount.{recount-exact}
 use Rattle.pages.specs.Pages.{pagesOf}
 use Rattle.objects.specs.Objects.{freeWordsOf, outOf}
@@ -122,8 +122,7 @@ module _ (S : Store) (r : ℕ) where
     in-entries = ltb-true entry 64 (not-false (isLive g r) live)
 
     used : nameAt g entry ≢ 0
-    unfolding nameAt entryOf entryIn
-    used z = let e = sym (entry-named (g .names) r in-entries) ∙ z in omega (arith, rw e at in-entries)
+    used = entry-used g r in-entries
 
   -- the region's one subregion is itself
   abbrev own : Bool

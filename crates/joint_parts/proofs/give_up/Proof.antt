@@ -8,7 +8,7 @@ use native.Mathlib.Omega.{arith}
 use borrow.Author.Needs.{needs}
 use Rattle.lists.specs.Ticks.{tickAt}
 use Rattle.joint_parts.specs.Joint.{namesLeft}
-use Rattle.joint_parts.specs.Laws.Zeroed.{zeroed-none, zeroed-own, zeroed-other}
+use Rattle.lists.specs.Laws.Zeroed.{zeroed-none, zeroed-own, zeroed-other}
 use Rattle.joint_parts.proofs.give_up.Statement.{statement}
 use Rattle.joint_parts.proofs.give_up.Tie as tie
 

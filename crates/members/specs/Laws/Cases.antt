@@ -2,7 +2,7 @@
 -- Assumes nothing.
 use mathlib.Core.Path.{_≡_, refl}
 use mathlib.Core.Bool.{true}
-use mathlib.Core.List.{List, [], _∷_, map}
+use mathlib.Core.List.{List, [], _∷_, _++_, map}
 use Prim.Native.Nat.{ℕ}
 use lib.Dec.{eqb}
 use lib.ListN.{replicate}
@@ -48,11 +48,11 @@ pub refused : every (λ p. eqb (reason (nameTests (deadBy names) (p .0))) (p .1)
 unfolding nameTests deadBy entryIn
 refused = refl
 
--- the tags of the names, in whatever order, are ticked, others not; a dead name leaves none
+-- the tags of the names, in whatever order, are ticked, others not; a dead name ticks place 65, which is no region's
 pub marked : equal eqb (ticked (replicate 5 0) (map (tagBy names) (6 ∷ 5 ∷ []))) (0 ∷ 0 ∷ 1 ∷ 1 ∷ 0 ∷ []) ≡ true
 unfolding ticked tagBy entryIn
 marked = refl
 
-pub unmarked : equal eqb (ticked (replicate 65 0) (map (tagBy names) (9 ∷ []))) (replicate 65 0) ≡ true
+pub unmarked : equal eqb (ticked (replicate 256 0) (map (tagBy names) (9 ∷ []))) (replicate 65 0 ++ (1 ∷ replicate 190 0)) ≡ true
 unfolding ticked tagBy entryIn
 unmarked = refl

@@ -1,6 +1,6 @@
 -- Laws of the entries.
 -- Assumes nothing.
-use mathlib.Core.Path.{_≡_, refl, ap, _∙_}
+use mathlib.Core.Path.{_≡_, refl, ap, _∙_, sym}
 use mathlib.Core.Bool.{Bool, true, false, not}
 use mathlib.Core.Logic.{_≢_}
 use mathlib.Core.List.{List, [], _∷_}
@@ -74,6 +74,11 @@ entry-named names n = go (eqb n 0)
     go : (b : Bool) → pick b 64 (findOr has 64 (upTo 64)) < 64 → getD names (pick b 64 (findOr has 64 (upTo 64))) 0 ≡ n
     go true h = absurd (omega arith)
     go false h = by-test (anyOf has (upTo 64)) (λ e. eqb-true (getD names (findOr has 64 (upTo 64)) 0) n (find-found has 64 64 e .1)) (λ e. absurd (omega (arith, find-none has 64 (upTo 64) e)))
+
+-- and so is in use
+pub entry-used : (r : Regions) (n : ℕ) → entryOf r n < 64 → nameAt r (entryOf r n) ≢ 0
+unfolding nameAt entryOf entryIn
+entry-used r n h z = let e = sym (entry-named (r .names) n h) ∙ z in omega (arith, rw e at h)
 
 -- the entries in use and those not in use are all
 pub live-rest : (names : List ℕ) → liveIn names + countOf (λ i. eqb (getD names i 0) 0) (upTo 64) ≡ 64

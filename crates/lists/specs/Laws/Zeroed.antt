@@ -10,10 +10,9 @@ use lib.Dec.{ltb}
 use lib.ListN.{length, getD, set, length-set, List·getD-eq-default}
 use lib.Seq.{ext-getD, getD-set-same, getD-set-other, set-getD}
 use borrow.Author.Tests.{ltb-true, ltb-false, lt-ltb, le-ltb}
-use Rattle.lists.specs.Lists.{pick}
+use Rattle.lists.specs.Lists.{pick, zeroed}
 use Rattle.lists.specs.Laws.Tests.{by-same, by-test, pick-same}
 use Rattle.lists.specs.Laws.UpTo.{getD-map-upTo, length-map-upTo}
-use Rattle.joint_parts.specs.Joint.{zeroed}
 
 module _ (f : ℕ → Bool) (l : List ℕ) where
   -- what place j holds
@@ -38,7 +37,7 @@ module _ (f : ℕ → Bool) (l : List ℕ) where
   zeroed-is r e h = ext-getD 0 r (zeroed f l) (e ∙ sym zeroed-length) (λ j k. h j (omega arith) ∙ sym (zeroed-at j))
 
 -- the places below n that pass
-abbrev below : (ℕ → Bool) → ℕ → ℕ → Bool
+abbrev pub below : (ℕ → Bool) → ℕ → ℕ → Bool
 below f n j = ltb j n && f j
 
 module _ (f : ℕ → Bool) (l : List ℕ) where
