@@ -14,6 +14,9 @@ pub fn delete(s: State, heap: &[u32], region: u32) -> Done
     let tag = e + 1;
     let n = t.frames.standing;
     let m = t.frames.counted;
+    // a byte for each number that a page's owner can be, the region's ticked
+    let mut members = [0u8; 256];
+    cells::store_byte(&mut members, tag as usize, 1);
     // checked
     let g = delete_parts::delete_refusal(
         t.pages.made,
@@ -29,6 +32,7 @@ pub fn delete(s: State, heap: &[u32], region: u32) -> Done
         &t.frames.widths,
         &t.frames.slots,
         &t.pages.owners,
+        &members,
     );
     if g != 0 {
         return Done {
@@ -36,9 +40,7 @@ pub fn delete(s: State, heap: &[u32], region: u32) -> Done
             reply: checks::refused(g),
         };
     }
-    // scanned: a byte for each number that a page's owner can be, the region's ticked
-    let mut members = [0u8; 256];
-    cells::store_byte(&mut members, tag as usize, 1);
+    // scanned
     regions::counts_shaped(t.regions);
     let mut c = apart::scan(
         t.kinds.declared,

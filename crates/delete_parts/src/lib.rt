@@ -1,24 +1,25 @@
-// What delete asks before a region goes, and the frames that are counted from then on, after a joint delete too.
+// What delete asks before a region goes; the look over the uncounted frames and the frames that are counted from then on, for a joint delete too.
 ghost use mathlib.Core.Path.{_≡_};
 ghost use lib.ListN.{getD};
 ghost use Rattle.model.specs.Calls.{reason};
 ghost use Rattle.regions.specs.Regions.{subregionsIn};
 ghost use Rattle.regions.specs.Laws.Steps.{enterings};
-ghost use Rattle.outcomes.specs.Store.{ledIn};
+ghost use Rattle.outcomes.specs.Store.{ledAmongIn};
 ghost use Rattle.outcomes.specs.Outcome.{newlyIn};
 ghost use Rattle.checks.specs.Checks.{firstRefusal, regionTests};
+ghost use Rattle.lists.specs.Ticks.{tickAt};
 ghost use Rattle.delete_parts.specs.Delete.{deleteTests};
 
-// Whether some slot of an uncounted frame leads into the region with that tag. The first that does ends the look.
-fn look<'a>(
+// Whether some slot of an uncounted frame leads into a member. The first that does ends the look.
+pub fn look<'a>(
     standing: u32,
     counted: u32,
     widths: &'a [u8],
     slots: &'a [u32],
     owners: &'a [u8],
-    tag: u32,
+    members: &'a [u8],
 ) -> bool
-    ensures { λ r. ⌜ r ≡ ledIn standing counted (now (widths .entry)) (now (slots .entry)) (now (owners .entry)) tag ⌝ }
+    ensures { λ r. ⌜ r ≡ ledAmongIn standing counted (now (widths .entry)) (now (slots .entry)) (now (owners .entry)) (tickAt (now (members .entry))) ⌝ }
 {
     let n = frames::frame_count(standing);
     let mut found = false;
@@ -27,7 +28,8 @@ fn look<'a>(
         let w = frames::width_at(widths, i);
         let mut k: u32 = 0;
         while k < w {
-            if pages::owner_of(owners, frames::slot_at(slots, i, k)) == tag {
+            let t = pages::owner_of(owners, frames::slot_at(slots, i, k));
+            if members::is_member(members, t) {
                 found = true;
                 break 'look;
             }
@@ -38,7 +40,7 @@ fn look<'a>(
     found
 }
 
-// Why the region of that name, with entry e and that tag, is not deleted; 0 if it may go.
+// Why the region of that name, with entry e and that tag, which is ticked, is not deleted; 0 if it may go.
 pub fn delete_refusal<'a>(
     made: u32,
     words: usize,
@@ -53,8 +55,9 @@ pub fn delete_refusal<'a>(
     widths: &'a [u8],
     slots: &'a [u32],
     owners: &'a [u8],
+    members: &'a [u8],
 ) -> u32
-    ensures { λ r. ⌜ r ≡ firstRefusal (reason (regionTests made words e)) (reason (deleteTests region (subregionsIn (now (names .entry)) (now (parents .entry)) tag) (getD (now (counts .entry)) e 0) (ledIn standing counted (now (widths .entry)) (now (slots .entry)) (now (owners .entry)) tag))) ⌝ }
+    ensures { λ r. ⌜ r ≡ firstRefusal (reason (regionTests made words e)) (reason (deleteTests region (subregionsIn (now (names .entry)) (now (parents .entry)) tag) (getD (now (counts .entry)) e 0) (ledAmongIn standing counted (now (widths .entry)) (now (slots .entry)) (now (owners .entry)) (tickAt (now (members .entry)))))) ⌝ }
 {
     let g = checks::region_refusal(made, words, e);
     if g != 0 {
@@ -71,7 +74,7 @@ pub fn delete_refusal<'a>(
     if stored != 0 {
         return 19;
     }
-    if look(standing, counted, widths, slots, owners, tag) {
+    if look(standing, counted, widths, slots, owners, members) {
         19
     } else {
         0

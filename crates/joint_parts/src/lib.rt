@@ -35,36 +35,6 @@ pub fn closed<'a>(names: &'a [u32], parents: &'a [u8], members: &'a [u8]) -> boo
     true
 }
 
-// Whether some slot of an uncounted frame leads into a member. The first that does ends the look.
-fn led<'a>(
-    standing: u32,
-    counted: u32,
-    widths: &'a [u8],
-    slots: &'a [u32],
-    owners: &'a [u8],
-    members: &'a [u8],
-) -> bool
-    ensures { λ r. ⌜ r ≡ ledAmongIn standing counted (now (widths .entry)) (now (slots .entry)) (now (owners .entry)) (tickAt (now (members .entry))) ⌝ }
-{
-    let n = frames::frame_count(standing);
-    let mut found = false;
-    let mut i = counted;
-    'look: while i < n {
-        let w = frames::width_at(widths, i);
-        let mut k: u32 = 0;
-        while k < w {
-            let t = pages::owner_of(owners, frames::slot_at(slots, i, k));
-            if members::is_member(members, t) {
-                found = true;
-                break 'look;
-            }
-            k += 1;
-        }
-        i += 1;
-    }
-    found
-}
-
 // Whether some member's count is not 0.
 fn still_counted<'a>(counts: &'a [u32], members: &'a [u8]) -> bool
     ensures { λ r. ⌜ r ≡ stillCounted (now (counts .entry)) (tickAt (now (members .entry))) ⌝ }
@@ -96,7 +66,7 @@ pub fn pointed_at<'a>(
     if still_counted(counts, members) {
         return true;
     }
-    led(standing, counted, widths, slots, owners, members)
+    delete_parts::look(standing, counted, widths, slots, owners, members)
 }
 
 // The members' entries are given up.

@@ -20,11 +20,14 @@ scanned c = c .before .before .before .before .before .before .before .before .b
 abbrev shaped : tie.After-scan → tie.After-counts-shaped
 shaped c = c .before .before .before .before .before .before .before .before
 
-abbrev ticked : tie.After-counts-shaped → tie.After-store-byte
-ticked c = c .before .before .before
+abbrev checked : tie.After-counts-shaped → tie.After-delete-refusal
+checked c = c .before .before .before
 
-abbrev found : tie.After-delete-refusal → tie.After-entry-of
-found c = c .before .before .before .before .before .before .before .before .before .before .before .before .before .before
+abbrev ticked : tie.After-delete-refusal → tie.After-store-byte
+ticked c = c .before .before .before .before .before .before .before .before .before .before .before .before .before .before .before .before
+
+abbrev found : tie.After-store-byte → tie.After-entry-of
+found c = c .before .before
 
 abbrev began : tie.After-entry-of → tie.Start
 began c = c .before .before .before .before .before
@@ -41,7 +44,8 @@ add-tag c =
 returns : tie.Need-returns
 returns c =
     let d = c .before .before in
-    by-refusal _ _ _ _ _ (delete-second _ _ _ _ (found d .entry-of .ensures) (d .delete-refusal .ensures)) (c .before .if1 .taken) (c .refused .ensures) refl
+    let k = ticked d in
+    by-refusal _ _ _ _ _ (delete-second _ _ _ _ _ (found k .entry-of .ensures) (k .store-byte .ensures) (d .delete-refusal .ensures)) (c .before .if1 .taken) (c .refused .ensures) refl
 
 returns-2 : tie.Need-returns-2
 unfolding raised topFrame withCounts withoutRegions
@@ -52,10 +56,10 @@ returns-2 c =
     let f = frames-entered b in
     let s = scanned f in
     let z = shaped s in
-    let k = ticked z in
-    let i = k .before .before in
-    let e = found (i .before) in
-    delete-effect _ _ _ _ (e .entry-of .ensures) (i .before .delete-refusal .ensures) (i .if1 .left) _ _ _ _ _ _ _ (c .gives .ensures) (z .counts-shaped .ensures) (pages-listed (began e)) (k .store-byte .ensures)
+    let d = checked z in
+    let k = ticked d in
+    let e = found k in
+    delete-effect _ _ _ _ _ (e .entry-of .ensures) (k .store-byte .ensures) (d .delete-refusal .ensures) _ _ _ _ _ _ (z .before .before .if1 .left) (c .gives .ensures) (z .counts-shaped .ensures) (pages-listed (began e))
     (s .scan .ensures) (f .enter-frames .ensures) (b .give-back .ensures) (rw (t .top .ensures)) refl (rw (w .put-word .ensures)) refl refl
 
 pub delete-spec : {M : Type 1} → statement M
@@ -64,12 +68,13 @@ delete-spec =
     (tie.spec
     (λ c κs. search needs)
     add-tag
+    (λ c. search needs)
+    (λ c. search needs)
+    (λ c κs. search needs)
+    (λ c. search needs)
     (λ c κs. search needs)
     (λ c κs. search needs)
     returns
-    (λ c. search needs)
-    (λ c. search needs)
-    (λ c κs. search needs)
     (λ c κs. search needs)
     (λ c κs. search needs)
     (λ c. search needs)

@@ -124,7 +124,7 @@ module _ (S : Store) (member : ℕ → Bool) where
     page-alike j true e = out-alike owners (freeing S member j) (ownerAt (pages S) j) u z (change j (ownerAt (pages S) j) e) (freeWordsOn (kinds S) (S .heap) (pages S) j)
     page-alike j false e = refl
 
-    pub words-alike : (n : ℕ) → times u (outNow n) ≡ times u (outFrom (kinds S) (S .heap) (pages S) member n)
+    words-alike : (n : ℕ) → times u (outNow n) ≡ times u (outFrom (kinds S) (S .heap) (pages S) member n)
     unfolding outBy
     words-alike n =
         sum-joined (λ x. bit (eqb x u)) _ (upTo n)

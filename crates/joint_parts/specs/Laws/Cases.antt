@@ -39,7 +39,7 @@ cases =
     ∷ ((0 ∷ 0 ∷ 1 ∷ 0 ∷ 0 ∷ [], 1 ∷ 1 ∷ 0 ∷ 2 ∷ []), (0 ∷ 1 ∷ 0 ∷ 1 ∷ []) ∷ (1 ∷ 0 ∷ 3 ∷ 4 ∷ []) ∷ [])
     -- regions 2 and 3: nothing is, and no slot leads into them
     ∷ ((0 ∷ 0 ∷ 1 ∷ 1 ∷ 0 ∷ [], 1 ∷ 0 ∷ 0 ∷ 1 ∷ []), (0 ∷ 0 ∷ 0 ∷ 0 ∷ []) ∷ (1 ∷ 0 ∷ 0 ∷ 4 ∷ []) ∷ [])
-    -- regions 2 and 4: a slot leads into region 4, though no count is left (member_subregion_refuses, look_at_one_frame, look_left_out)
+    -- regions 2 and 4: a slot leads into region 4, though no count is left (member_subregion_refuses, look_left_out; look_at_one_frame of delete_parts)
     ∷ ((0 ∷ 0 ∷ 1 ∷ 0 ∷ 1 ∷ [], 1 ∷ 0 ∷ 1 ∷ 0 ∷ []), (1 ∷ 0 ∷ 1 ∷ 1 ∷ []) ∷ (1 ∷ 0 ∷ 3 ∷ 0 ∷ []) ∷ [])
     ∷ []
 

@@ -76,7 +76,7 @@ module _ (S : Store) (member : ℕ → Bool) where
 
   -- the regions once the words of the pages below n have left, by the owners that there are at each page's turn
   module _ (os : ℕ → List ℕ) where
-    abbrev pub wordsOf : ℕ → List ℕ
+    abbrev wordsOf : ℕ → List ℕ
     wordsOf j = outOf (os j) (ownerAt (pages S) j) (freeWordsOn (kinds S) (S .heap) (pages S) j)
 
     unfoldable pub leftBy : ℕ → Regions
