@@ -106,6 +106,7 @@ static const struct bench benches[] = {
     {"view", bench_answering, &plain, 17, 6, 0, MOST, 1000},
     {"same", bench_answering, &plain, 18, 1, 0, MOST, 1000},
     {"about", bench_answering, &plain, 19, 7, 0, MOST, 1000},
+    {"locate", bench_answering, &plain, 25, 1, 0, MOST, 1000},
     {"totals", bench_answering, &plain, 21, 516, 0, MOST, 1000},
     {"push_drop", bench_pairs, &plain, 6, 0, 1, MOST, 1000},
     {"push_hand_back", bench_pairs, &plain, 7, 0, 1, MOST, 1000},

@@ -1,8 +1,8 @@
 -- Used in proofs only: no demand cites it, and a reader need not believe it. How the demands read audited memory is `begin`, in outcomes' History.
--- A reference model made from a memory: kinds and frames as they stand, regions by entry, objects in the order in which their headers are met, pointers as ids.
+-- A reference model made from a memory: pages, kinds and frames as they stand, regions by entry, objects in the order in which their headers are met, pointers as ids.
 -- Assumes nothing.
 use mathlib.Core.List.{List, map}
-use Prim.Native.Nat.{ℕ, zero, suc, _+_, _-_, _/_}
+use Prim.Native.Nat.{ℕ, zero, suc, _+_, _-_, _/_, _%_}
 use lib.Dec.{eqb}
 use lib.ListN.{length, getD}
 use Rattle.lists.specs.Lists.{pick, findOr, upTo}
@@ -10,7 +10,7 @@ use Rattle.model.specs.Model.{Model, Region, Object}
 use Rattle.frames.specs.Frames.{frameCount, widthAt, slotAt}
 use Rattle.kinds.specs.Kinds.{sizeOf, markAt}
 use Rattle.regions.specs.Regions.{nameAt, nameOf, parentAt, levelAt, newestAt, oldestAt}
-use Rattle.pages.specs.Pages.{pagesOf}
+use Rattle.pages.specs.Pages.{pageCount}
 use Rattle.outcomes.specs.Store.{Store, frames, kinds, regions, pages}
 use Rattle.outcomes.specs.History.{entries, listedKinds}
 use Rattle.outcomes.specs.Laws.Begin.{holderOf, headersOf, headers}
@@ -38,23 +38,23 @@ unfoldable pub readObject : Store → ℕ → Object
 readObject S q = record {
   home = holderOf S (q / 64);
   kind = getD (S .heap) q 0;
+  page = q / 64;
+  word = q % 64;
   words = map (readWord S q) (upTo (sizeOf (kinds S) (getD (S .heap) q 0)));
 }
 
--- the words left in the newest page of entry i
-unfoldable pub roomAt : Store → ℕ → ℕ
-roomAt S i = elim (newestAt (regions S) i) [
-  | zero ↦ 0
-  | suc j ↦ 64 - getD ((pages S) .taken) j 0
-]
+-- the words left in a newest page, entered as its number plus 1, 0 where there is none
+abbrev pub roomOf : Store → ℕ → ℕ
+roomOf S zero = 0
+roomOf S (suc j) = 64 - getD ((pages S) .taken) j 0
 
 unfoldable pub readRegion : Store → ℕ → Region
 readRegion S i = record {
   name = nameAt (regions S) i;
   parent = nameOf (regions S) (parentAt (regions S) i);
   level = levelAt (regions S) i;
-  pages = pagesOf (pages S) (i + 1);
-  room = roomAt S i;
+  newest = newestAt (regions S) i - 1;
+  room = roomOf S (newestAt (regions S) i);
   oldest = idOf (places S) (oldestAt (regions S) i);
 }
 
@@ -63,7 +63,7 @@ readFrame S i = map (λ s. idOf (places S) (slotAt (frames S) i s)) (upTo (width
 
 unfoldable pub rebuilt : Store → Model
 rebuilt S = record {
-  free = pagesOf (pages S) 0;
+  holders = map (holderOf S) (upTo (pageCount (pages S)));
   kinds = listedKinds S;
   regions = map (readRegion S) (entries S);
   frames = map (readFrame S) (upTo (frameCount (frames S)));

@@ -202,6 +202,7 @@ pub extern "C" fn bench_answering(
             19 => store::about(s, heap, i % 2),
             20 => store::report(s, heap, 2),
             21 => store::totals(s),
+            25 => store::locate(s, heap, i % 2),
             _ => store::audit(s, heap),
         };
         sum = noted(sum, r);

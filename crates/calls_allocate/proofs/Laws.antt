@@ -8,7 +8,7 @@ use native.Mathlib.Omega.{arith}
 use lib.Dec.{eqb, ltb, leb}
 use lib.ListN.{getD, replicate}
 use lib.Seq.{sets}
-use borrow.Author.Tests.{eqb-true, eqb-false, ltb-true, leb-false, not-false, eq-eqb, ne-eqb, lt-ltb, le-ltb}
+use borrow.Author.Tests.{eqb-true, eqb-false, ltb-true, leb-false, not-false, ne-eqb, lt-ltb, le-ltb}
 use Rattle.lists.specs.Lists.{pick}
 use Rattle.lists.specs.Laws.Tests.{neither, by-test}
 use Rattle.model.specs.Model.{Answer, allocate, gives}
@@ -17,10 +17,10 @@ use Rattle.model.specs.Laws.Passed.{all-passed}
 use Rattle.kinds.specs.Kinds.{kindCount, sizeIn, sizeOf}
 use Rattle.regions.specs.Regions.{entryIn, entryOf, isLive, newestAt, oldestAt, withPage}
 use Rattle.pages.specs.declared.Pages.{Pages}
-use Rattle.pages.specs.Pages.{pageCount, takenAt, isFree, firstFree, pagesOf, withTaken}
-use Rattle.pages.specs.Laws.Free.{first-none, first-some, first-free}
+use Rattle.pages.specs.Pages.{pageCount, takenAt, firstFree, pagesOf, withTaken}
+use Rattle.pages.specs.Laws.Free.{first-none, first-some}
 use Rattle.outcomes.specs.Store.{Store, kinds, regions, pages, size, roomy, roomyIn}
-use Rattle.outcomes.specs.Outcome.{Chosen, withRegions, withPages, withHeap, refusal, checks, dead, fillSlot, allocated, Accepted, Outcome}
+use Rattle.outcomes.specs.Outcome.{pageFor, withRegions, withPages, withHeap, refusal, checks, dead, fillSlot, allocated, Accepted, Outcome}
 use Rattle.kinds.specs.Laws.Marks.{size-most}
 use Rattle.outcomes.specs.Laws.Steps.{by-effect}
 use Rattle.checks.specs.Checks.{firstRefusal}
@@ -71,21 +71,15 @@ module _ (S : Store) (i n : ℕ) where
   abbrev start : ℕ → ℕ
   start j = pick (roomy S i n) (takenAt (pages S) j) 0
 
-  -- a place is on a page that may be chosen
-  place-some : 0 < n → place ≢ 0 → (j : ℕ) × Chosen S i n j × (start j < 64) × (place ≡ 64 * j + start j + 1)
-  unfolding placeFor roomy freePlace newestAt takenAt firstFree pageCount roomyIn
+  -- a place is on the page that is taken
+  place-some : 0 < n → place ≢ 0 → let j = pageFor S i n in (start j < 64) × (place ≡ 64 * j + start j + 1)
+  unfolding placeFor pageFor roomy freePlace newestAt takenAt firstFree pageCount roomyIn
   place-some h = go noRoom refl
     where
       go : (b : Bool) → noRoom ≡ b → pick (not b) behind lowest ≢ 0
-          → (j : ℕ) × (pick (not b) (eqb newest (j + 1)) (isFree (pages S) j) ≡ true) × (pick (not b) (takenAt (pages S) j) 0 < 64)
-          × (pick (not b) behind lowest ≡ 64 * j + pick (not b) (takenAt (pages S) j) 0 + 1)
-      go true q z =
-          by-test (ltb (firstFree (pages S)) (pageCount (pages S)))
-          (λ e. (firstFree (pages S), first-free (pages S) (ltb-true _ _ e), omega arith, rw e (omega arith)))
-          (λ e. absurd (z (rw e)))
-      go false q z =
-          let t = neither _ _ q in
-          (newest - 1, eq-eqb newest (newest - 1 + 1) (omega (arith, eqb-false newest 0 (t .0))), omega (arith, leb-false 65 (takenAt (pages S) (newest - 1) + n) (t .1)), refl)
+          → let j = pick (not b) (newest - 1) (firstFree (pages S)) in (pick (not b) (takenAt (pages S) j) 0 < 64) × (pick (not b) behind lowest ≡ 64 * j + pick (not b) (takenAt (pages S) j) 0 + 1)
+      go true q z = by-test (ltb (firstFree (pages S)) (pageCount (pages S))) (λ e. (omega arith, rw e (omega arith))) (λ e. absurd (z (rw e)))
+      go false q z = (omega (arith, leb-false 65 (takenAt (pages S) (newest - 1) + n) (neither (eqb newest 0) (leb 65 (takenAt (pages S) (newest - 1) + n)) q .1)), refl)
 
 module _ (S : Store) (slot region kind : ℕ) where
   abbrev entry : ℕ
@@ -135,4 +129,4 @@ module _ (S : Store) (slot region kind : ℕ) where
         let f : v ≡ place S entry (1 + words) = placed ∙ rw (paged, found, sized) in
         let j = place-some S entry (1 + words) (omega arith) (λ o. object-passed ((kinds S) .declared) e kind v g tested z .1 (f ∙ o)) in
         by-effect (allocate slot region kind) S a T (allocate-second ∙ z)
-        (p, (j .0, j .1, h ∙ ap₂ (λ x y. withObject x y v) found sized ∙ made (j .0) v (j .2) (f ∙ j .3)))
+        (p, h ∙ ap₂ (λ x y. withObject x y v) found sized ∙ made (pageFor S entry (1 + words)) v (j .0) (f ∙ j .1))

@@ -1,4 +1,4 @@
--- Where a region's next object stands (document 01, The store, on objects), and allocate's tests, over the numbers and lists that they read. Assumes nothing.
+-- Where a region's next object stands (document 01, The store, on objects; document 02, card 4), and allocate's tests, over the numbers and lists that they read. Assumes nothing.
 use mathlib.Core.Bool.{Bool, not, _||_}
 use mathlib.Core.List.{List, [], _∷_}
 use Prim.Native.Nat.{ℕ, _+_, _-_, _*_}
@@ -14,7 +14,7 @@ unfoldable pub freePlace : ℕ → List ℕ → ℕ
 freePlace made owners = pick (ltb (firstFreeIn made owners) (pageCountIn made)) (64 * firstFreeIn made owners + 1) 0
 
 -- a pointer to the place of an object of n words, its header too, made next for a region whose newest page, plus 1, is q: behind what is taken of that page,
--- or on a free page where it has none or the object does not fit there; 0 where there is no such page
+-- or at the start of the lowest free page where it has none or the object does not fit there; 0 where there is no such page
 unfoldable pub placeFor : ℕ → List ℕ → List ℕ → ℕ → ℕ → ℕ
 placeFor made owners taken q n = pick (roomyIn taken q n) (64 * (q - 1) + takenIn taken (q - 1) + 1) (freePlace made owners)
 

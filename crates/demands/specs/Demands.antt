@@ -39,7 +39,7 @@ Demand2 =
     → (es : List Event) (T : Store) → Run S es T
     → (a ≡ gives []) × (answers es ≡ run (fresh (length heap / 64)) (calls es))
 
--- More than demand 2: from any memory for which audit gives 1 the answers are those of some valid model, whatever the calls.
+-- More than demand 2: from any memory for which audit gives 1 the answers are those of some valid model, whatever the calls. (That it has the objects where the memory does is `LedgerPlaces`', in Later.)
 unfoldable pub AuditedAnswers : Type 0
 AuditedAnswers =
     (S : Store) → Sized S → Outcome audit S (gives (1 ∷ [])) S

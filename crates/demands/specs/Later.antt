@@ -1,24 +1,26 @@
--- What document 02's cards promise beside the demands, most of it after every list of calls from every start. Each is a type; the theorems are in Laws: Later for card 1, Together and JointOfOne for card 2, Apart for card 3.
+-- What document 02's cards promise beside the demands, most of it after every list of calls from every start. Each is a type; the theorems are in Laws: Later for card 1, Together and JointOfOne for card 2, Apart for card 3, Alike and Layout for card 4.
 -- Assumes nothing.
 use mathlib.Core.Path.{_≡_}
 use mathlib.Core.Logic.{_↔_, _≢_, _⊎_}
-use mathlib.Core.Bool.{Bool, true, not, _&&_, _||_}
+use mathlib.Core.Bool.{Bool, true, false, not, _&&_, _||_}
 use mathlib.Core.List.{List, [], _∷_, map}
-use Prim.Native.Nat.{ℕ, zero, suc, _-_, _≤_, _<_}
+use Prim.Native.Nat.{ℕ, zero, suc, _+_, _-_, _*_, _/_, _%_, _≤_, _<_}
 use lib.Dec.{eqb}
 use lib.ListN.{length, getD}
-use Rattle.lists.specs.Lists.{bit, every, findOr, All, times}
-use Rattle.model.specs.Model.{Answer, Call, setPointer, delete, deleteAll, marks, rule}
+use Rattle.lists.specs.Lists.{bit, every, keep, findOr, countOf, All, times, among}
+use Rattle.model.specs.Model.{Model, Object as Entry, Answer, Call, allocate, setPointer, audit, delete, deleteAll, locate, ask, gives, livesIn, marks, rule}
+use Rattle.model.specs.Calls.{makes, fresh, run, after}
+use Rattle.model.specs.Valid.{Valid}
 use Rattle.regions.specs.Regions.{nameAt, parentAt, countAt, entryOf, tagOf, subregionsOf, withCounts}
 use Rattle.pages.specs.Pages.{pagesWith}
 use Rattle.outcomes.specs.Store.{Store, frames, kinds, regions, pages, slot}
-use Rattle.outcomes.specs.History.{History, begin, isLive, parentOf, aboveOf, pointersOf, at, homeOf}
+use Rattle.outcomes.specs.History.{History, Object, begin, isLive, parentOf, aboveOf, pointersOf, at, homeOf, holders, leads}
 use Rattle.outcomes.specs.Sound.{soundLevels, soundDistinct, soundParents}
 use Rattle.outcomes.specs.Shape.{Sized, Bits32}
-use Rattle.outcomes.specs.Outcome.{Outcome, refusal, countBut, withRegions}
+use Rattle.outcomes.specs.Outcome.{Outcome, MakeOutcome, refusal, countBut, withRegions}
 use Rattle.outcomes.specs.Apart.{Way, scanned, givenBack, scanThenGive, pageByPage, named, DeletesBy}
-use Rattle.outcomes.specs.Runs.{Event, Run}
-use Rattle.demands.specs.Told.{history}
+use Rattle.outcomes.specs.Runs.{Event, calls, answers, Run}
+use Rattle.demands.specs.Told.{slotAfter, history}
 use Rattle.demands.specs.Demands.{Start}
 
 -- ---- Card 1: up to any height
@@ -129,17 +131,68 @@ OneButGone S T U =
     (T ≡ withRegions U (withCounts (regions U) ((regions T) .counts)))
     × ((i : ℕ) → (nameAt (regions T) i ≢ 0) ⊎ (nameAt (regions S) i ≡ 0) → countAt (regions T) i ≡ countAt (regions U) i)
 
--- a call has one outcome on each memory
-abbrev pub OneOutcome : Call → Type 0
-OneOutcome c = (S : Store) (a b : Answer) (T U : Store) → Outcome c S a T → Outcome c S b U → (a ≡ b) × (T ≡ U)
-
 -- Page by page, as delete went before, comes to the same on every memory, audited or not, whose arrays have those lengths: for one region in the answer and in every word of state and heap; for several,
--- where no code went so, in the answer, and in every word but the counts at the entries given up, where words between members may have stayed counted. And each of the two calls has one outcome on each
--- memory, whatever it holds: what code with the same contract gave and left before, it gives and leaves now
+-- where no code went so, in the answer, and in every word but the counts at the entries given up, where words between members may have stayed counted. (That each of the two calls has one outcome on each
+-- memory, so that code with the same contract gives and leaves what it gave and left before, is `Determined`, below)
 unfoldable pub SameDelete : Type 0
 SameDelete =
-    ((S : Store) → Sized S
+    (S : Store) → Sized S
     → ((r : ℕ) → DeleteIs pageByPage S r)
-    × ((rs : List ℕ) (a b : Answer) (T U : Store) → Outcome (deleteAll rs) S a T → DeletesBy pageByPage (refusal S (deleteAll rs)) rs S b U → (a ≡ b) × OneButGone S T U))
-    × ((r : ℕ) → OneOutcome (delete r))
-    × ((rs : List ℕ) → OneOutcome (deleteAll rs))
+    × ((rs : List ℕ) (a b : Answer) (T U : Store) → Outcome (deleteAll rs) S a T → DeletesBy pageByPage (refusal S (deleteAll rs)) rs S b U → (a ≡ b) × OneButGone S T U)
+
+-- ---- Card 4: the lowest free page
+
+-- The outcomes leave nothing open: one call on one memory has one outcome (and it has one: `Total`), on rejected memory too, where they say more than the documents fix
+unfoldable pub Determined : Type 0
+Determined = (c : Call) (S : Store) (a b : Answer) (T U : Store) → Outcome c S a T → Outcome c S b U → (a ≡ b) × (T ≡ U)
+
+-- two runs are alike: they give the same answers and leave the same heap, word by word, and the same state
+abbrev pub Alike : List Event → Store → List Event → Store → Type 0
+Alike es T fs U = (answers es ≡ answers fs) × (T .heap ≡ U .heap) × (T .state ≡ U .state)
+
+-- Two runs of the same calls from any one store, audited or not, are alike
+unfoldable pub SameFrom : Type 0
+SameFrom = (S : Store) (es fs : List Event) (T U : Store) → Run S es T → Run S fs U → calls es ≡ calls fs → Alike es T fs U
+
+-- So are two runs of the same calls on two stores that accepted makes of one size have left, whatever their heaps held before
+unfoldable pub SameHeaps : Type 0
+SameHeaps =
+    (g h : List ℕ) → length g ≡ length h → makes (length g) ≡ true
+    → (a b : Answer) (S S₂ : Store) → MakeOutcome g a S → MakeOutcome h b S₂
+    → (es fs : List Event) (T U : Store) → Run S es T → Run S₂ fs U → calls es ≡ calls fs → (a ≡ b) × Alike es T fs U
+
+-- an object of the ledger as a history lists it, its header at its word of its page; and those that live
+abbrev pub stood : Entry → Object
+stood o = record { place = 64 * o .page + o .word; kind = o .kind; home = o .home }
+
+abbrev pub standing : Model → List Object
+standing L = map stood (keep (λ o. livesIn L (o .home)) (L .objects))
+
+-- ledger and memory have the same live objects, each in one place, of one kind and of one region, in any order: as many pass any test
+abbrev pub SamePlaces : Model → Store → Type 0
+SamePlaces L S = (f : Object → Bool) → countOf f (standing L) ≡ countOf f ((begin S) .objects)
+
+-- So after every list of calls: from a fresh store, of the ledger that demand 2 names; from audited memory, of one that answers as the store does
+unfoldable pub LedgerPlaces : Type 0
+LedgerPlaces =
+    ((heap : List ℕ) (a : Answer) (S : Store) → makes (length heap) ≡ true → MakeOutcome heap a S
+    → (es : List Event) (T : Store) → Run S es T → SamePlaces (after (fresh (length heap / 64)) (calls es)) T)
+    × ((S : Store) → Sized S → Outcome audit S (gives (1 ∷ [])) S
+    → (L : Model) × Valid L × ((es : List Event) (T : Store) → Run S es T → (answers es ≡ run L (calls es)) × SamePlaces (after L (calls es)) T))
+
+-- j is the lowest number in the list
+abbrev pub Lowest : List ℕ → ℕ → Type 0
+Lowest l j = (among j l ≡ true) × ((i : ℕ) → i < j → among i l ≡ false)
+
+-- where objects lie, in a store and by what its calls told
+pub record Layout (h : History) (S : Store) : Type 0 where
+  -- if the next call makes an object and is accepted, its header stands on a page that its region held, or at the start of the lowest of the free ones. (On which of its region's pages, `pageFor` says)
+  pub takes : (s r k : ℕ) (a : Answer) (T : Store) → Outcome (allocate s r k) S a T → a .refusal ≡ 0
+      → (p : ℕ) × (slotAfter h T s ≡ p + 1) × ((among r (holders h (p / 64)) ≡ true) ⊎ (Lowest (h .free) (p / 64) × (p % 64 ≡ 0)))
+  -- if the next call locates a slot that the top frame has, it answers 256 and 0 where the slot is null, else the page and the word of the place where the live object's header stands
+  pub locates : (s : ℕ) (a : Answer) (T : Store) → Outcome (ask (locate s)) S a T → s < topWidth h
+      → ((slot S s ≡ 0) × (a ≡ gives (256 ∷ 0 ∷ []))) ⊎ ((p : ℕ) × (slot S s ≡ p + 1) × (leads h (p + 1) ≡ true) × (a ≡ gives (p / 64 ∷ p % 64 ∷ [])))
+
+-- so after every list of calls from every start
+unfoldable pub LaidOut : Type 0
+LaidOut = (S : Store) (h : History) → Start S h → (es : List Event) (T : Store) → Run S es T → Layout (history h es) T

@@ -10,6 +10,8 @@ pub mod Demand3
 pub mod Later
 pub mod JointOfOne
 pub mod Apart
+pub mod Alike
+pub mod Layout
 pub mod Table
 pub mod Cases
 pub mod Together

@@ -7,7 +7,7 @@ use Prim.Native.Nat.{ℕ, zero, suc, _-_, _/_}
 use lib.Dec.{eqb, ltb, leb}
 use lib.ListN.{length, getD, take}
 use Rattle.lists.specs.Lists.{pick, every, keep, joined, upTo, among}
-use Rattle.model.specs.Model.{Call, declare, newRegion, subregion, push, dropFrame, handBack, allocate, first, copy, fetch, clear, load, setPointer, put, get, view, same, about, report, totals, audit, delete, deleteAll}
+use Rattle.model.specs.Model.{Call, declare, newRegion, subregion, push, dropFrame, handBack, allocate, first, copy, fetch, clear, load, setPointer, put, get, view, same, about, report, totals, audit, delete, deleteAll, ask}
 use Rattle.frames.specs.Frames.{slotAt}
 use Rattle.outcomes.specs.Store.{Store, frames}
 use Rattle.outcomes.specs.History.{History, holders}
@@ -112,6 +112,7 @@ told totals v T h = h
 told audit v T h = h
 told (delete r) v T h = ended h (r ∷ [])
 told (deleteAll rs) v T h = ended h rs
+told (ask q) v T h = h
 
 abbrev pub noteBy : ℕ → Event → History → History
 noteBy zero e h = told (e .call) (e .answer .values) (e .left) h

@@ -6,8 +6,8 @@ use Prim.Native.Nat.{ℕ, zero, suc, _+_, _-_, _%_}
 use lib.Dec.{eqb, ltb, leb}
 use lib.ListN.{length, getD, set, take, replicate}
 use Rattle.lists.specs.Lists.{bit, pick, anyOf, every, keep, sumOf, joined, among, repeats}
-use Rattle.model.specs.Model.{Call, declare, newRegion, subregion, push, dropFrame, handBack, allocate, first, copy, fetch, clear, load, setPointer, put, get, view, same, about, report, totals, audit, delete, deleteAll}
-use Rattle.model.specs.Model.{Region, Object, Model, Answer, four, gives, refusedBy, called, region, marks, livesIn, homeIn, parentIn, topPlace, top, beneath, slot, inSlot, slotMarks, markAt, inFrames, fromObject, inWords, outside, stored, subregions, closed, outsideBut, climb, allowed}
+use Rattle.model.specs.Model.{Call, declare, newRegion, subregion, push, dropFrame, handBack, allocate, first, copy, fetch, clear, load, setPointer, put, get, view, same, about, report, totals, audit, delete, deleteAll, Query, locate, ask}
+use Rattle.model.specs.Model.{Region, Object, Model, Answer, four, gives, refusedBy, called, region, marks, livesIn, homeIn, parentIn, heldBy, lowestFree, topPlace, top, beneath, slot, inSlot, slotMarks, markAt, inFrames, fromObject, inWords, outside, stored, subregions, closed, outsideBut, climb, allowed}
 
 -- ---- Refusals (document 01, The calls). 21 is not among them: each call of a session gets the store's own heap
 
@@ -57,6 +57,10 @@ wrongNames rs = eqb (length rs) 0 || ltb 16 (length rs) || repeats rs
 unfoldable pub nameTests : (ℕ → Bool) → List ℕ → List (Bool × ℕ)
 nameTests gone rs = joined (λ r. gone r yields 2 ∷ eqb r 1 yields 3 ∷ []) rs
 
+-- the tests of calls that only ask (document 02, card 4, on locate)
+unfoldable pub queryChecks : Model → Query → List (Bool × ℕ)
+queryChecks L (locate s) = noFrame L yields 6 ∷ lacks (top L) s yields 9 ∷ []
+
 -- the tests of each call, in document 01's order, and in document 02's for its cards' calls
 unfoldable pub checks : Model → Call → List (Bool × ℕ)
 checks L (declare ms) = (eqb (length ms) 0 || ltb 16 (length ms) || anyOf (ltb 4) ms) yields 11 ∷ leb 16 (length (L .kinds)) yields 10 ∷ []
@@ -67,7 +71,7 @@ checks L dropFrame = noFrame L yields 6 ∷ []
 checks L (handBack s b) = oneFrame L yields 6 ∷ (lacks (top L) s || lacks (beneath L) b) yields 9 ∷ []
 checks L (allocate s r k) =
     noFrame L yields 6 ∷ lacks (top L) s yields 9 ∷ dead L r yields 2 ∷ (eqb k 0 || ltb (length (L .kinds)) k) yields 12
-    ∷ (not (fits (region (L .regions) r) (size L k)) && eqb (L .free) 0) yields 13 ∷ []
+    ∷ (not (fits (region (L .regions) r) (size L k)) && eqb (heldBy L 0) 0) yields 13 ∷ []
 checks L (first s r) = noFrame L yields 6 ∷ lacks (top L) s yields 9 ∷ dead L r yields 2 ∷ []
 checks L (copy s t) = noFrame L yields 6 ∷ (lacks (top L) s || lacks (top L) t) yields 9 ∷ []
 checks L (fetch b s) = oneFrame L yields 6 ∷ (lacks (beneath L) b || lacks (top L) s) yields 9 ∷ []
@@ -87,11 +91,16 @@ checks L audit = []
 checks L (delete r) = dead L r yields 2 ∷ eqb r 1 yields 3 ∷ not (eqb (subregions L r) 0) yields 18 ∷ not (eqb (outside L r) 0) yields 19 ∷ []
 checks L (deleteAll rs) =
     wrongNames rs yields 22 ∷ nameTests (dead L) rs ++ (not (closed (L .regions) rs) yields 18 ∷ anyOf (λ r. not (eqb (outsideBut L rs r) 0)) rs yields 19 ∷ [])
+checks L (ask q) = queryChecks L q
 
 unfoldable pub refusal : Model → Call → ℕ
 refusal L c = reason (checks L c)
 
 -- ---- What an accepted call answers
+
+-- locate: the object's page and its header's word there; of null, 256 and 0 (document 02, card 4)
+unfoldable pub queryReply : Model → Query → Answer
+queryReply L (locate s) = gives ((inSlot L s) .page ∷ (inSlot L s) .word ∷ [])
 
 unfoldable pub reply : Model → Call → Answer
 reply L (declare ms) = gives ((length (L .kinds) + 1) ∷ [])
@@ -112,22 +121,23 @@ reply L (get s w) = gives (getD ((inSlot L s) .words) w 0 ∷ [])
 reply L (view s) = record { refusal = 0; values = four []; part = (inSlot L s) .words }
 reply L (same s t) = gives (bit (eqb (slot L s) (slot L t)) ∷ [])
 reply L (about s) = gives ((inSlot L s) .home ∷ (inSlot L s) .kind ∷ [])
-reply L (report r) = gives (stored L r ∷ outside L r ∷ (region (L .regions) r) .pages ∷ subregions L r ∷ [])
-reply L totals = gives (L .free ∷ length (L .regions) ∷ length (L .frames) ∷ L .counted ∷ [])
+reply L (report r) = gives (stored L r ∷ outside L r ∷ heldBy L r ∷ subregions L r ∷ [])
+reply L totals = gives (heldBy L 0 ∷ length (L .regions) ∷ length (L .frames) ∷ L .counted ∷ [])
 reply L audit = gives (1 ∷ [])
-reply L (delete r) = gives ((region (L .regions) r) .pages ∷ [])
-reply L (deleteAll rs) = gives (sumOf (λ r. (region (L .regions) r) .pages) rs ∷ [])
+reply L (delete r) = gives (heldBy L r ∷ [])
+reply L (deleteAll rs) = gives (sumOf (heldBy L) rs ∷ [])
+reply L (ask q) = queryReply L q
 
 -- ---- What an accepted call leaves
 
 abbrev pub withKinds : Model → List (List ℕ) → Model
-withKinds L ks = record { free = L .free; kinds = ks; regions = L .regions; frames = L .frames; counted = L .counted; given = L .given; objects = L .objects }
+withKinds L ks = record { holders = L .holders; kinds = ks; regions = L .regions; frames = L .frames; counted = L .counted; given = L .given; objects = L .objects }
 
 abbrev pub withFrames : Model → List (List ℕ) → ℕ → Model
-withFrames L fs m = record { free = L .free; kinds = L .kinds; regions = L .regions; frames = fs; counted = m; given = L .given; objects = L .objects }
+withFrames L fs m = record { holders = L .holders; kinds = L .kinds; regions = L .regions; frames = fs; counted = m; given = L .given; objects = L .objects }
 
 abbrev pub withObjects : Model → List Object → Model
-withObjects L os = record { free = L .free; kinds = L .kinds; regions = L .regions; frames = L .frames; counted = L .counted; given = L .given; objects = os }
+withObjects L os = record { holders = L .holders; kinds = L .kinds; regions = L .regions; frames = L .frames; counted = L .counted; given = L .given; objects = os }
 
 -- slot s of the top frame gets p
 unfoldable pub fillSlot : Model → ℕ → ℕ → Model
@@ -145,7 +155,7 @@ replaced os zero o = os
 replaced os (suc i) o = set os i o
 
 abbrev pub withWord : Object → ℕ → ℕ → Object
-withWord o w x = record { home = o .home; kind = o .kind; words = set (o .words) w x }
+withWord o w x = record { home = o .home; kind = o .kind; page = o .page; word = o .word; words = set (o .words) w x }
 
 -- word w of the object in slot s gets x
 unfoldable pub writeWord : Model → ℕ → ℕ → ℕ → Model
@@ -154,22 +164,33 @@ writeWord L s w x = withObjects L (replaced (L .objects) (slot L s) (withWord (i
 -- a region below region r, or below none, with the next name
 unfoldable pub addRegion : Model → ℕ → ℕ → Model
 addRegion L r l = record {
-  free = L .free;
+  holders = L .holders;
   kinds = L .kinds;
-  regions = L .regions ++ (record { name = L .given + 1; parent = r; level = l; pages = 0; room = 0; oldest = 0 } ∷ []);
+  regions = L .regions ++ (record { name = L .given + 1; parent = r; level = l; newest = 0; room = 0; oldest = 0 } ∷ []);
   frames = L .frames;
   counted = L .counted;
   given = L .given + 1;
   objects = L .objects;
 }
 
--- region g with one more object, of n words with its header and with the id i: in the newest page where it fits, else in a page that was free
-unfoldable pub grown : ℕ → ℕ → Region → Region
-grown n i g = record {
+-- where an object of n words, its header too, goes in region r: after those of the newest page, if it fits there, else at the start of the lowest free page (document 01, The store, on objects; document 02, card 4)
+unfoldable pub pageFor : Model → ℕ → ℕ → ℕ
+pageFor L r n = let g = region (L .regions) r in pick (fits g n) (g .newest) (lowestFree (L .holders))
+
+unfoldable pub wordFor : Model → ℕ → ℕ → ℕ
+wordFor L r n = let g = region (L .regions) r in pick (fits g n) (64 - g .room) 0
+
+-- the holders of the pages, once that object is made: a page that was free is the region's now
+unfoldable pub holdersFor : Model → ℕ → ℕ → List ℕ
+holdersFor L r n = pick (fits (region (L .regions) r) n) (L .holders) (set (L .holders) (lowestFree (L .holders)) r)
+
+-- region g with one more object, of n words, its header too, and with the id i, on page j, which is its newest now
+unfoldable pub grown : ℕ → ℕ → ℕ → Region → Region
+grown n i j g = record {
   name = g .name;
   parent = g .parent;
   level = g .level;
-  pages = pick (fits g n) (g .pages) (g .pages + 1);
+  newest = j;
   room = pick (fits g n) (g .room - n) (64 - n);
   oldest = pick (eqb (g .oldest) 0) i (g .oldest);
 }
@@ -179,24 +200,29 @@ unfoldable pub addObject : Model → ℕ → ℕ → Model
 addObject L r k =
     let n = size L k in
     let i = length (L .objects) + 1 in
+    let j = pageFor L r n in
     record {
-      free = pick (fits (region (L .regions) r) n) (L .free) (L .free - 1);
+      holders = holdersFor L r n;
       kinds = L .kinds;
-      regions = map (λ g. pick (called r g) (grown n i g) g) (L .regions);
+      regions = map (λ g. pick (called r g) (grown n i j g) g) (L .regions);
       frames = L .frames;
       counted = L .counted;
       given = L .given;
-      objects = L .objects ++ (record { home = r; kind = k; words = replicate (length (marks (L .kinds) k)) 0 } ∷ []);
+      objects = L .objects ++ (record { home = r; kind = k; page = j; word = wordFor L r n; words = replicate (length (marks (L .kinds) k)) 0 } ∷ []);
     }
 
 -- the regions but those that rs names
 abbrev pub others : List Region → List ℕ → List Region
 others gs rs = keep (λ g. not (among (g .name) rs)) gs
 
+-- who holds a page of region r once those that rs names are gone: none, if r is one of them
+abbrev pub heldAfter : List ℕ → ℕ → ℕ
+heldAfter rs r = pick (among r rs) 0 r
+
 -- the regions that rs names go, their pages are free again, and all frames but the top one are counted (document 01, Delete; document 02, card 2)
 unfoldable pub removeRegions : Model → List ℕ → Model
 removeRegions L rs = record {
-  free = L .free + sumOf (λ r. (region (L .regions) r) .pages) rs;
+  holders = map (heldAfter rs) (L .holders);
   kinds = L .kinds;
   regions = others (L .regions) rs;
   frames = L .frames;
@@ -229,6 +255,7 @@ accepted L totals = L
 accepted L audit = L
 accepted L (delete r) = removeRegions L (r ∷ [])
 accepted L (deleteAll rs) = removeRegions L rs
+accepted L (ask q) = L
 
 -- ---- Each call, and lists of calls. A refused call answers its number and changes nothing
 
@@ -248,7 +275,7 @@ next L c = nextBy (refusal L c) L c
 
 -- what a list of calls answers, and the model that it leaves
 unfoldable pub run : Model → List Call → List Answer
-unfolding answer next refusal checks wrongNames nameTests reply accepted fillSlot popFrame writeWord addRegion addObject grown removeRegions closed outside outsideBut stored inWords inFrames fromObject climb allowed
+unfolding answer next refusal checks queryChecks wrongNames nameTests reply queryReply accepted fillSlot popFrame writeWord addRegion addObject pageFor wordFor holdersFor lowestFree grown removeRegions closed outside outsideBut stored inWords inFrames fromObject climb allowed
 run L [] = []
 run L (c ∷ cs) = answer L c ∷ run (next L c) cs
 
@@ -263,9 +290,9 @@ makes w = eqb (w % 64) 0 && leb 64 w && leb w 16384
 
 abbrev pub fresh : ℕ → Model
 fresh n = record {
-  free = n;
+  holders = replicate n 0;
   kinds = [];
-  regions = record { name = 1; parent = 0; level = 1; pages = 0; room = 0; oldest = 0 } ∷ [];
+  regions = record { name = 1; parent = 0; level = 1; newest = 0; room = 0; oldest = 0 } ∷ [];
   frames = [];
   counted = 0;
   given = 1;

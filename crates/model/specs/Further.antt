@@ -4,7 +4,7 @@ use mathlib.Core.List.{List, [], _∷_, _++_}
 use Prim.Native.Nat.{_*_}
 use lib.ListN.{replicate}
 use Rattle.lists.specs.Lists.{from}
-use Rattle.model.specs.Model.{declare, newRegion, subregion, push, dropFrame, handBack, allocate, first, copy, fetch, clear, load, setPointer, put, get, view, same, about, report, totals, audit, delete, deleteAll}
+use Rattle.model.specs.Model.{declare, newRegion, subregion, push, dropFrame, handBack, allocate, first, copy, fetch, clear, load, setPointer, put, get, view, same, about, report, totals, audit, delete, deleteAll, locate, ask}
 use Rattle.model.specs.Sessions.{Row, line}
 
 -- ---- Document 01's cases without a star
@@ -254,7 +254,55 @@ allOthers = record {
       ∷ line 22 0 3 0 0 0 ∷ line 23 0 3 1 0 0 ∷ line 24 0 0 0 1 0 ∷ line 25 0 1 0 0 0 ∷ [];
 }
 
+-- ---- Document 02, card 4: the lowest free page
+
+-- Regions 2, 3 and 4 take pages 0, 1 and 2; the second object of region 2 stands at word 16 of its page, and of a null slot locate answers 256 and 0. Region 3 goes: region 4 still has
+-- room on its newest page, and region 5 takes page 1, the lowest free one, before region 1 takes page 3. Region 2 goes, and region 6 takes page 0
+abbrev pub lowestAgain : Row
+lowestAgain = record {
+  lent = 5 * 64;
+  calls =
+      declare (replicate 15 0) ∷ push 6 ∷ newRegion ∷ newRegion ∷ newRegion ∷ allocate 0 2 1 ∷ allocate 1 3 1 ∷ allocate 2 2 1 ∷ allocate 3 4 1 ∷ ask (locate 0)
+      ∷ ask (locate 1) ∷ ask (locate 2) ∷ ask (locate 3) ∷ ask (locate 4) ∷ clear 1 ∷ delete 3 ∷ ask (locate 3) ∷ allocate 1 4 1 ∷ ask (locate 1) ∷ newRegion
+      ∷ allocate 4 5 1 ∷ ask (locate 4) ∷ allocate 5 1 1 ∷ ask (locate 5) ∷ clear 0 ∷ clear 2 ∷ delete 2 ∷ newRegion ∷ allocate 0 6 1 ∷ ask (locate 0) ∷ totals
+      ∷ audit ∷ [];
+  skip = 10;
+  prints =
+      line 11 0 0 0 0 0 ∷ line 12 0 1 0 0 0 ∷ line 13 0 0 16 0 0 ∷ line 14 0 2 0 0 0 ∷ line 15 0 256 0 0 0 ∷ line 16 0 0 0 0 0 ∷ line 17 0 1 0 0 0 ∷ line 18 0 2 0 0 0
+      ∷ line 19 0 0 0 0 0 ∷ line 20 0 2 16 0 0 ∷ line 21 0 5 0 0 0 ∷ line 22 0 0 0 0 0 ∷ line 23 0 1 0 0 0 ∷ line 24 0 0 0 0 0 ∷ line 25 0 3 0 0 0 ∷ line 26 0 0 0 0 0
+      ∷ line 27 0 0 0 0 0 ∷ line 28 0 1 0 0 0 ∷ line 29 0 6 0 0 0 ∷ line 30 0 0 0 0 0 ∷ line 31 0 0 0 0 0 ∷ line 32 0 1 4 1 0 ∷ line 33 0 1 0 0 0 ∷ [];
+}
+
+-- Four objects fill page 1, the newest of region 3. The next takes page 0, which is free again, and not page 2; the one after stands there too. Then a slot that is not there,
+-- and no frame
+abbrev pub pageFull : Row
+pageFull = record {
+  lent = 4 * 64;
+  calls =
+      declare (replicate 15 0) ∷ push 5 ∷ newRegion ∷ newRegion ∷ allocate 0 2 1 ∷ replicate 4 (allocate 1 3 1)
+      ++ (ask (locate 1) ∷ clear 0 ∷ delete 2 ∷ ask (locate 0) ∷ allocate 2 3 1 ∷ ask (locate 2) ∷ allocate 3 3 1 ∷ ask (locate 3) ∷ ask (locate 1) ∷ ask (locate 5)
+      ∷ dropFrame ∷ ask (locate 0) ∷ audit ∷ []);
+  skip = 10;
+  prints =
+      line 11 0 1 48 0 0 ∷ line 12 0 0 0 0 0 ∷ line 13 0 1 0 0 0 ∷ line 14 0 256 0 0 0 ∷ line 15 0 0 0 0 0 ∷ line 16 0 0 0 0 0 ∷ line 17 0 0 0 0 0 ∷ line 18 0 0 16 0 0
+      ∷ line 19 0 1 48 0 0 ∷ line 20 9 0 0 0 0 ∷ line 21 0 0 0 0 0 ∷ line 22 6 0 0 0 0 ∷ line 23 0 1 0 0 0 ∷ [];
+}
+
+-- A joint delete leaves holes at pages 0 and 2; they are taken in that order, and then page 4; where none is left, 13, and the slot stays null
+abbrev pub holesFilled : Row
+holesFilled = record {
+  lent = 5 * 64;
+  calls =
+      declare (0 ∷ []) ∷ push 8 ∷ newRegion ∷ newRegion ∷ newRegion ∷ allocate 0 2 1 ∷ allocate 1 3 1 ∷ allocate 2 4 1 ∷ allocate 3 1 1 ∷ clear 0 ∷ clear 2
+      ∷ deleteAll (4 ∷ 2 ∷ []) ∷ newRegion ∷ allocate 4 5 1 ∷ ask (locate 4) ∷ newRegion ∷ allocate 5 6 1 ∷ ask (locate 5) ∷ newRegion ∷ allocate 6 7 1
+      ∷ ask (locate 6) ∷ newRegion ∷ allocate 7 8 1 ∷ ask (locate 7) ∷ ask (locate 3) ∷ audit ∷ [];
+  skip = 12;
+  prints =
+      line 13 0 2 0 0 0 ∷ line 14 0 5 0 0 0 ∷ line 15 0 0 0 0 0 ∷ line 16 0 0 0 0 0 ∷ line 17 0 6 0 0 0 ∷ line 18 0 0 0 0 0 ∷ line 19 0 2 0 0 0 ∷ line 20 0 7 0 0 0
+      ∷ line 21 0 0 0 0 0 ∷ line 22 0 4 0 0 0 ∷ line 23 0 8 0 0 0 ∷ line 24 13 0 0 0 0 ∷ line 25 0 256 0 0 0 ∷ line 26 0 3 0 0 0 ∷ line 27 0 1 0 0 0 ∷ [];
+}
+
 abbrev pub further : List Row
 further = heap0 ∷ heap16384 ∷ heap16448 ∷ threeFit ∷ push9 ∷ regions65
     ∷ lastDrops ∷ lostRoom ∷ levels ∷ outgoing ∷ again ∷ handed ∷ wordRules ∷ slotRules ∷ threeLevels ∷ sixteenLevels ∷ toRegion1
-    ∷ gridAndDrafts ∷ leftOut ∷ ledFromOutside ∷ nameLists ∷ mOnce ∷ allOthers ∷ []
+    ∷ gridAndDrafts ∷ leftOut ∷ ledFromOutside ∷ nameLists ∷ mOnce ∷ allOthers ∷ lowestAgain ∷ pageFull ∷ holesFilled ∷ []

@@ -1,32 +1,35 @@
 -- The reference model: what a store of regions is, and how the pointers into a region are counted. It computes.
--- An object is known by its id, 1, 2, .. in the order made; 0 is null. Pages are only counted. No count of pointers is kept: each is counted when asked for.
+-- An object is known by its id, 1, 2, .. in the order made; 0 is null. No count is kept, of pointers or of pages: each is counted when asked for.
 -- Assumes nothing.
 use mathlib.Core.Bool.{Bool, true, false, not, _&&_, _||_}
 use mathlib.Core.List.{List, [], _∷_}
 use Prim.Native.Nat.{ℕ, zero, suc, _+_, _-_}
 use lib.Dec.{eqb}
 use lib.ListN.{length, getD, take}
-use Rattle.lists.specs.Lists.{bit, pick, anyOf, findOr, sumOf, sumOf₂, countOf, every, among}
+use Rattle.lists.specs.Lists.{bit, pick, anyOf, findOr, sumOf, sumOf₂, countOf, every, upTo, times, among}
 
--- A live region: the region directly above it (0: none), its pages, the words left in the newest one and its oldest object (0: none).
+-- A live region: the region directly above it (0: none), its newest page and the words left there (where it has none there is no room, and this number is not read), and its oldest object (0: none).
 pub record Region : Type 0 where
   pub name : ℕ
   pub parent : ℕ
   pub level : ℕ
-  pub pages : ℕ
+  pub newest : ℕ
   pub room : ℕ
   pub oldest : ℕ
 
--- An object: its region, the number of its kind and its words. A word holds data or an id, by its mark.
+-- An object: its region, the number of its kind, where it lies (document 02, card 4: its page, and the word of that page that is its header, both from 0) and its words.
+-- A word holds data or an id, by its mark.
 pub record Object : Type 0 where
   pub home : ℕ
   pub kind : ℕ
+  pub page : ℕ
+  pub word : ℕ
   pub words : List ℕ
 
--- The free pages; the marks of each kind; the live regions; the frames, lowest first; how many of these are counted, document 01's m;
--- the last name given; and all objects ever made, oldest first. Those of deleted regions stay in the list, dead.
+-- For each page the name of the region that holds it (0: it is free); the marks of each kind; the live regions; the frames, lowest first; how many of these are counted, document 01's m;
+-- the last name given; and all objects ever made, oldest first. Those of deleted regions stay in the list, dead, so that no id is used again; their pages and words may be.
 pub record Model : Type 0 where
-  pub free : ℕ
+  pub holders : List ℕ
   pub kinds : List (List ℕ)
   pub regions : List Region
   pub frames : List (List ℕ)
@@ -34,7 +37,11 @@ pub record Model : Type 0 where
   pub given : ℕ
   pub objects : List Object
 
--- The calls numbered 2 to 23, in that order, each with its arguments in document 01's order; then, numbered from 24 on, those of document 02's cards.
+-- The calls of document 02's cards that only ask, and change nothing: locate (card 4).
+pub data Query : Type 0 where
+  locate : ℕ → Query
+
+-- The calls numbered 2 to 23, in that order, each with its arguments in document 01's order; then, numbered from 24 on, those of document 02's cards: delete_all (card 2), and those that only ask.
 pub data Call : Type 0 where
   declare : List ℕ → Call
   newRegion : Call
@@ -59,6 +66,7 @@ pub data Call : Type 0 where
   audit : Call
   delete : ℕ → Call
   deleteAll : List ℕ → Call
+  ask : Query → Call
 
 -- What a call answers: the number of its refusal, 0 if accepted; four values, 0 where there is none; and the words that view hands back.
 pub record Answer : Type 0 where
@@ -75,13 +83,13 @@ gives v = record { refusal = 0; values = four v; part = [] }
 abbrev pub refusedBy : ℕ → Answer
 refusedBy n = record { refusal = n; values = four []; part = [] }
 
--- ---- Lookups. What is not there reads as nothing: no live region has the name 0, and null leads to no object
+-- ---- Lookups. What is not there reads as nothing: no live region has the name 0, and null leads to no object, whose page reads as 256, past all pages (document 02, card 4)
 
 abbrev pub noRegion : Region
-noRegion = record { name = 0; parent = 0; level = 0; pages = 0; room = 0; oldest = 0 }
+noRegion = record { name = 0; parent = 0; level = 0; newest = 0; room = 0; oldest = 0 }
 
 abbrev pub noObject : Object
-noObject = record { home = 0; kind = 0; words = [] }
+noObject = record { home = 0; kind = 0; page = 256; word = 0; words = [] }
 
 -- region g has the name r
 abbrev pub called : ℕ → Region → Bool
@@ -116,6 +124,14 @@ homeIn L = homeOf (L .objects)
 
 abbrev pub parentIn : Model → ℕ → ℕ
 parentIn L = parentOf (L .regions)
+
+-- how many pages region r holds; of 0, which is no region's name, how many are free (document 01, Report and Totals)
+abbrev pub heldBy : Model → ℕ → ℕ
+heldBy L r = times r (L .holders)
+
+-- the lowest free page, by the holders of all pages; the number of pages where none is free (document 02, card 4)
+unfoldable pub lowestFree : List ℕ → ℕ
+lowestFree holders = findOr (λ j. eqb (getD holders j 0) 0) (length holders) (upTo (length holders))
 
 -- the place of the top frame, which is also the number of frames that stand without it
 abbrev pub topPlace : List (List ℕ) → ℕ

@@ -5,7 +5,7 @@ use Prim.Native.Nat.{ℕ, zero, suc}
 use lib.Dec.{eqb}
 use lib.ListN.{getD, take, drop}
 use Rattle.lists.specs.Lists.{pick, sumOf, sumOf₂}
-use Rattle.model.specs.Model.{Model, Call, declare, newRegion, subregion, push, dropFrame, handBack, allocate, first, copy, fetch, clear, load, setPointer, put, get, view, same, about, report, totals, audit, delete, deleteAll}
+use Rattle.model.specs.Model.{Model, Call, declare, newRegion, subregion, push, dropFrame, handBack, allocate, first, copy, fetch, clear, load, setPointer, put, get, view, same, about, report, totals, audit, delete, deleteAll, ask}
 use Rattle.model.specs.Model.{homeIn, topPlace, slot, inSlot, markAt, marks, inFrames, freeInto}
 use Rattle.model.specs.Calls.{popFrame}
 
@@ -58,6 +58,7 @@ moves L totals r = (0, 0)
 moves L audit r = (0, 0)
 moves L (delete q) r = (inFrames (homeIn L) r (newly L), fromRegions L (q ∷ []) r)
 moves L (deleteAll qs) r = (inFrames (homeIn L) r (newly L), fromRegions L qs r)
+moves L (ask q) r = (0, 0)
 
 -- and by a call that is refused by n, 0 if it is accepted
 abbrev pub movesBy : ℕ → Model → Call → ℕ → ℕ × ℕ

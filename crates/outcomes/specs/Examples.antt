@@ -1,5 +1,5 @@
--- Memories written out: one that the audit accepts, and some like it with a longer way up; for each clause of Sound some that break it, and some that differ only where nothing is read.
--- Two pages, regions 1 and 5 (5 below 1), four objects, two frames of which one is counted. Entries not in use hold 77 or 99.
+-- Memories written out: one that the audit accepts, some like it with a longer way up, one with free pages between those held; for each clause of Sound some that break it, and some that differ only where nothing is read.
+-- The first has two pages, regions 1 and 5 (5 below 1), four objects, two frames of which one is counted. Entries not in use hold 77 or 99.
 -- Assumes nothing.
 use mathlib.Core.List.{List, [], _∷_, _++_}
 use Prim.Native.Nat.{ℕ}
@@ -180,6 +180,13 @@ ring = tree (0 ∷ 3 ∷ 2 ∷ 0 ∷ []) (1 ∷ 2 ∷ 2 ∷ 1 ∷ [])
 abbrev pub ringTo3 : Store
 ringTo3 = treeTo3 (0 ∷ 3 ∷ 2 ∷ 0 ∷ []) (1 ∷ 2 ∷ 2 ∷ 1 ∷ [])
 
+-- `small` with holes: of five pages 1 and 3 are free, region 5 holds page 2 and region 1 the others. Region 1's newest page is page 4, and region 5 has none entered (document 02, card 4)
+abbrev pub holes : Store
+holes =
+    small but setMade 5 but setOwners (1 ∷ 0 ∷ 3 ∷ 0 ∷ 1 ∷ replicate 251 77) but setTaken (6 ∷ 77 ∷ 7 ∷ 77 ∷ 3 ∷ replicate 251 77) but setNewest (5 ∷ 77 ∷ 0 ∷ replicate 61 77) but setOldest (1 ∷ 77 ∷ 129 ∷ replicate 61 77)
+    but setSlots (1 ∷ 129 ∷ replicate 6 77 ++ (132 ∷ replicate 247 77))
+    but setHeap (set page0 1 129 ++ replicate 64 99 ++ (1 ∷ 1 ∷ 42 ∷ 2 ∷ 129 ∷ 4 ∷ 1 ∷ replicate 57 99) ++ replicate 64 99 ++ (3 ∷ 7 ∷ 8 ∷ replicate 61 99))
+
 -- A memory, and the numbers of Sound's clauses that it breaks, from 0 in the order of the fields; a clause added later goes to the end of Sound and of the
 -- list of clauses, so that these numbers stay:
 -- 0 counts, 1 slots, 2 words, 3 held, 4 made, 5 declared, 6 sizes, 7 marks, 8 standing, 9 widths, 10 levels, 11 given, 12 counted, 13 heapLength, 14 distinct, 15 namesGiven, 16 permanent, 17 parents, 18 filling, 19 newest, 20 oldest
@@ -193,6 +200,8 @@ example S l = record { memory = S; breaks = l }
 abbrev pub examples : List Example
 examples =
     example small []
+    -- free pages between those held, and a region with a page and no newest one
+    ∷ example holes []
     -- a stored count one too low
     ∷ example (small but setCounts (set ct 0 1)) (0 ∷ [])
     -- a stored count one too high

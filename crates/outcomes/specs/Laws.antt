@@ -3,6 +3,7 @@ pub mod Decided
 pub mod Examples
 pub mod Cases
 pub mod Steps
+pub mod PageFor
 pub mod Apart
 pub mod Deleted
 pub mod ApartCases

@@ -9,7 +9,7 @@ use lib.Dec.{eqb, ltb, leb}
 use lib.ListN.{length, set, take, drop, replicate}
 use lib.Seq.{sets}
 use Rattle.lists.specs.Lists.{bit, pick, anyOf, sumOf, joined, from, among}
-use Rattle.model.specs.Model.{Answer, Call, declare, newRegion, subregion, push, dropFrame, handBack, allocate, first, copy, fetch, clear, load, setPointer, put, get, view, same, about, report, totals, audit, delete, deleteAll, four, gives, refusedBy}
+use Rattle.model.specs.Model.{Answer, Call, declare, newRegion, subregion, push, dropFrame, handBack, allocate, first, copy, fetch, clear, load, setPointer, put, get, view, same, about, report, totals, audit, delete, deleteAll, Query, locate, ask, four, gives, refusedBy}
 use Rattle.model.specs.Calls.{reason, _yields_, wrongNames, nameTests, makes}
 use Rattle.frames.specs.declared.Frames.{Frames}
 use Rattle.frames.specs.Frames.{frameCountIn, topFrame, widthAt, slotAt, putSlot, pushed, uncounts, popped, raised}
@@ -18,7 +18,7 @@ use Rattle.kinds.specs.Kinds.{kindCount, sizeOf, withKind, wrongMarks, allData 
 use Rattle.regions.specs.declared.Regions.{Regions}
 use Rattle.regions.specs.Regions.{nameOf, entryOf, tagOf, isLive, liveCount, subregionsOf, closedIn, levelAt, newestAt, oldestAt, countAt, unused, withRegion, withoutRegions, withPage, recount}
 use Rattle.pages.specs.declared.Pages.{Pages}
-use Rattle.pages.specs.Pages.{wrongLength, takenAt, ownerOf, isFree, pagesOf, withTaken, freed}
+use Rattle.pages.specs.Pages.{wrongLength, takenAt, ownerOf, pageOf, wordOf, firstFree, pagesOf, withTaken, freed}
 use Rattle.objects.specs.Objects.{kindOf, wordCount, markOf, wordAt, freeWordsOf, outOf}
 use Rattle.state.specs.declared.State.{State}
 use Rattle.state.specs.declared.Reply.{Reply}
@@ -80,6 +80,10 @@ outgoing S ts = joined (λ t. outOf ((pages S) .owners) t (freeWordsOf (kinds S)
 unfoldable pub countBut : Store → List ℕ → ℕ → ℕ
 countBut S ts i = countAt (recount (regions S) [] (outgoing S ts)) i
 
+-- the tests of calls that only ask, after the one of the heap's length (document 02, card 4, on locate)
+unfoldable pub queryChecks : Store → Query → List (Bool × ℕ)
+queryChecks S (locate s) = noFrame S yields 6 ∷ lacks S s yields 9 ∷ []
+
 unfoldable pub checks : Store → Call → List (Bool × ℕ)
 checks S (declare ms) = badLength S yields 21 ∷ wrongMarks ms yields 11 ∷ leb 16 ((kinds S) .declared) yields 10 ∷ []
 checks S newRegion = badLength S yields 21 ∷ full S yields 4 ∷ namesOut S yields 5 ∷ []
@@ -116,6 +120,7 @@ checks S (deleteAll rs) =
     let ts = map (tagOf g) rs in
     badLength S yields 21 ∷ wrongNames rs yields 22 ∷ nameTests (dead S) rs
     ++ (not (closedIn (g .names) (g .parents) (λ t. among t ts)) yields 18 ∷ (anyOf (λ r. not (eqb (countBut S ts (entryOf g r)) 0)) rs || ledAmong S ts) yields 19 ∷ [])
+checks S (ask q) = badLength S yields 21 ∷ queryChecks S q
 
 unfoldable pub refusal : Store → Call → ℕ
 refusal S c = reason (checks S c)
@@ -164,9 +169,9 @@ pointed S v w x =
     let h = ownerOf (pages S) v in
     writeWord (recounted S (countedIn S k h x) (countedIn S k h (wordAt (S .heap) v w))) v w x
 
--- page j is the newest page of the region at entry i, if n words more fit there; else it was free (document 01, The store, on objects)
-abbrev pub Chosen : Store → ℕ → ℕ → ℕ → Type 0
-Chosen S i n j = pick (roomy S i n) (eqb (newestAt (regions S) i) (j + 1)) (isFree (pages S) j) ≡ true
+-- the page of an object of n words, its header too, made for the region at entry i: the region's newest, if they fit there, else the lowest free one (document 01, The store, on objects; document 02, card 4)
+unfoldable pub pageFor : Store → ℕ → ℕ → ℕ
+pageFor S i n = pick (roomy S i n) (newestAt (regions S) i - 1) (firstFree (pages S))
 
 -- how many words of page j stand in front of an object of kind k made there: those taken of the newest page, none of a page that was free
 abbrev pub startOn : Store → ℕ → ℕ → ℕ → ℕ
@@ -211,6 +216,10 @@ viewAnswer S s p = record { refusal = refusal S (view s); values = four []; part
 abbrev pub viewed : Store → ℕ → Answer
 viewed S v = record { refusal = 0; values = four []; part = take (wordCount (kinds S) (S .heap) v) (drop v (S .heap)) }
 
+-- locate: the page of the object that the slot leads to, and its header's word there; of null, 256 and 0 (document 02, card 4)
+unfoldable pub queryReply : Store → Query → Answer
+queryReply S (locate s) = gives (pageOf (slot S s) ∷ wordOf (slot S s) ∷ [])
+
 unfoldable pub Accepted : Call → Store → Answer → Store → Type 0
 Accepted (declare ms) S a T = Leaves a (gives (((kinds S) .declared + 1) ∷ [])) T (withKinds S (withKind (kinds S) ms))
 Accepted newRegion S a T = Leaves a (gives (((regions S) .given + 1) ∷ [])) T (withRegions S (withRegion (regions S) (unused (regions S)) 0 1))
@@ -220,10 +229,9 @@ Accepted (subregion r) S a T =
 Accepted (push n) S a T = Leaves a (gives (((frames S) .standing + 1) ∷ [])) T (withFrames S (pushed (frames S) n))
 Accepted dropFrame S a T = Leaves a (gives (topFrame (frames S) ∷ [])) T (popFrame S)
 Accepted (handBack s b) S a T = Leaves a (gives (topFrame (frames S) ∷ [])) T (fillSlot (popFrame S) b (slot S s))
--- which free page is taken is not fixed: some j that was free, and is the region's newest page afterwards
 Accepted (allocate s r k) S a T =
     let i = entryOf (regions S) r in
-    (a ≡ gives []) × ((j : ℕ) × Chosen S i (size S k) j × (T ≡ allocated S s i k j))
+    Leaves a (gives []) T (allocated S s i k (pageFor S i (size S k)))
 Accepted (first s r) S a T = Leaves a (gives []) T (fillSlot S s (oldestAt (regions S) (entryOf (regions S) r)))
 Accepted (copy s t) S a T = Leaves a (gives []) T (fillSlot S t (slot S s))
 Accepted (fetch b s) S a T = Leaves a (gives []) T (fillSlot S s (slotAt (frames S) (topFrame (frames S) - 1) b))
@@ -244,6 +252,7 @@ Accepted totals S a T = Leaves a (gives (pagesOf (pages S) 0 ∷ liveCount (regi
 Accepted audit S a T = Leaves a (gives (bit (sound S) ∷ [])) T S
 Accepted (delete r) S a T = Leaves a (gives (pagesOf (pages S) (tagOf (regions S) r) ∷ [])) T (deleted S (r ∷ []))
 Accepted (deleteAll rs) S a T = Leaves a (gives (sumOf (λ r. pagesOf (pages S) (tagOf (regions S) r)) rs ∷ [])) T (deleted S rs)
+Accepted (ask q) S a T = Leaves a (queryReply S q) T S
 
 -- a refused call answers its number and zeros, and leaves every word as it was
 abbrev pub Answered : ℕ → Call → Store → Answer → Store → Type 0

@@ -1,7 +1,7 @@
 // The pages of the heap, a part of the state held by value. The functions take what they read: numbers, and arrays lent.
 ghost use mathlib.Core.Path.{_≡_};
 ghost use lib.ListN.{getD, set};
-ghost use Rattle.pages.specs.Pages.{wrongLengthIn, pageCountIn, takenIn, ownerIn, firstFreeIn, pagesIn};
+ghost use Rattle.pages.specs.Pages.{wrongLengthIn, pageCountIn, takenIn, ownerIn, pageOf, wordOf, firstFreeIn, pagesIn};
 
 // owners: the tag of the region that holds the page (its entry plus 1), 0 for a free page. taken: how many words of the page objects fill.
 pub struct Pages {
@@ -46,6 +46,26 @@ pub fn owner_of(owners: &[u8], v: u32) -> u32
         return 0;
     }
     cells::byte(owners, ((v - 1) / 64) as usize)
+}
+
+// The page of the object that v leads to, 256 for null.
+pub fn page_of(v: u32) -> u32
+    ensures { λ r. ⌜ r ≡ pageOf v ⌝ }
+{
+    if v == 0 {
+        return 256;
+    }
+    (v - 1) / 64
+}
+
+// The word of its page that is the header of the object that v leads to, 0 for null.
+pub fn word_of(v: u32) -> u32
+    ensures { λ r. ⌜ r ≡ wordOf v ⌝ }
+{
+    if v == 0 {
+        return 0;
+    }
+    (v - 1) % 64
 }
 
 // How many pages the region with that tag holds; for 0, how many are free.

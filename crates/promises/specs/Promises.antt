@@ -7,14 +7,14 @@ use mathlib.Core.List.{List, [], _∷_}
 use Prim.Native.Nat.{ℕ, _+_, _*_, _≤_, _<_}
 use lib.ListN.{length, getD}
 use Rattle.lists.specs.Lists.{bit, All}
-use Rattle.model.specs.Model.{Answer, Call, declare, newRegion, subregion, push, dropFrame, handBack, allocate, first, copy, fetch, clear, load, setPointer, put, get, view, same, about, report, totals, audit, delete, deleteAll, gives, refusedBy}
+use Rattle.model.specs.Model.{Answer, Call, declare, newRegion, subregion, push, dropFrame, handBack, allocate, first, copy, fetch, clear, load, setPointer, put, get, view, same, about, report, totals, audit, delete, deleteAll, ask, gives, refusedBy}
 use Rattle.model.specs.Calls.{makes}
 use Rattle.regions.specs.Regions.{entryOf}
 use Rattle.outcomes.specs.Store.{Store, regions, slot, size}
 use Rattle.outcomes.specs.History.{History, begin}
 use Rattle.outcomes.specs.Sound.{sound, Sound}
 use Rattle.outcomes.specs.Shape.{Bits32, Shaped}
-use Rattle.outcomes.specs.Outcome.{Outcome, MakeOutcome, refusal, badLength, store, startOn, allocated}
+use Rattle.outcomes.specs.Outcome.{Outcome, MakeOutcome, refusal, badLength, store, pageFor, startOn}
 
 -- every call has an outcome on every memory
 unfoldable pub Total : Type 0
@@ -36,38 +36,40 @@ LengthFirst =
 unfoldable pub SameLength : Type 0
 SameLength = (c : Call) (S : Store) (a : Answer) (T : Store) → Outcome c S a T → length (T .heap) ≡ length (S .heap)
 
--- the heap words that a call may write, from S to T: header and words of the object that allocate makes, on the page j that it took, and the word that set pointer or put names
-abbrev pub Named : Call → Store → Store → ℕ → Type 0
-Named (declare ms) S T p = ⊥
-Named newRegion S T p = ⊥
-Named (subregion r) S T p = ⊥
-Named (push n) S T p = ⊥
-Named dropFrame S T p = ⊥
-Named (handBack s b) S T p = ⊥
-Named (allocate s r k) S T p =
+-- the heap words that a call may write on S: header and words of the object that allocate makes, and the word that set pointer or put names
+abbrev pub Named : Call → Store → ℕ → Type 0
+Named (declare ms) S p = ⊥
+Named newRegion S p = ⊥
+Named (subregion r) S p = ⊥
+Named (push n) S p = ⊥
+Named dropFrame S p = ⊥
+Named (handBack s b) S p = ⊥
+Named (allocate s r k) S p =
     let i = entryOf (regions S) r in
-    (j : ℕ) × (T ≡ allocated S s i k j) × (64 * j + startOn S i k j ≤ p) × (p < 64 * j + startOn S i k j + size S k)
-Named (first s r) S T p = ⊥
-Named (copy s t) S T p = ⊥
-Named (fetch b s) S T p = ⊥
-Named (clear s) S T p = ⊥
-Named (load s w t) S T p = ⊥
-Named (setPointer s w v) S T p = p ≡ slot S s + w
-Named (put s w x) S T p = p ≡ slot S s + w
-Named (get s w) S T p = ⊥
-Named (view s) S T p = ⊥
-Named (same s t) S T p = ⊥
-Named (about s) S T p = ⊥
-Named (report r) S T p = ⊥
-Named totals S T p = ⊥
-Named audit S T p = ⊥
-Named (delete r) S T p = ⊥
-Named (deleteAll rs) S T p = ⊥
+    let j = pageFor S i (size S k) in
+    (64 * j + startOn S i k j ≤ p) × (p < 64 * j + startOn S i k j + size S k)
+Named (first s r) S p = ⊥
+Named (copy s t) S p = ⊥
+Named (fetch b s) S p = ⊥
+Named (clear s) S p = ⊥
+Named (load s w t) S p = ⊥
+Named (setPointer s w v) S p = p ≡ slot S s + w
+Named (put s w x) S p = p ≡ slot S s + w
+Named (get s w) S p = ⊥
+Named (view s) S p = ⊥
+Named (same s t) S p = ⊥
+Named (about s) S p = ⊥
+Named (report r) S p = ⊥
+Named totals S p = ⊥
+Named audit S p = ⊥
+Named (delete r) S p = ⊥
+Named (deleteAll rs) S p = ⊥
+Named (ask q) S p = ⊥
 
 unfoldable pub OnlyNamed : Type 0
 OnlyNamed =
     (c : Call) (S : Store) (a : Answer) (T : Store) → Outcome c S a T
-    → (p : ℕ) → (getD (T .heap) p 0 ≡ getD (S .heap) p 0) ⊎ Named c S T p
+    → (p : ℕ) → (getD (T .heap) p 0 ≡ getD (S .heap) p 0) ⊎ Named c S p
 
 -- a call's arguments are u32 numbers. Of them only put's value goes in unchecked, so only of it must that be said
 abbrev pub Sent : Call → Type 0

@@ -6,7 +6,7 @@ use mathlib.Core.Path.{_≡_}
 use mathlib.Core.Logic.{_⊎_, _≢_}
 use mathlib.Core.Bool.{true}
 use mathlib.Core.List.{List, [], _∷_}
-use Prim.Native.Nat.{ℕ, zero, suc, _+_, _-_, _*_, _/_, _≤_, _<_}
+use Prim.Native.Nat.{ℕ, zero, suc, _+_, _-_, _*_, _/_, _%_, _≤_, _<_}
 use lib.Dec.{eqb}
 use lib.ListN.{length, getD}
 use Rattle.lists.specs.Lists.{pick, sumOf, from, upTo}
@@ -18,7 +18,7 @@ use Rattle.kinds.specs.Kinds.{sizeOf, markAt}
 use Rattle.regions.specs.declared.Regions.{Regions}
 use Rattle.regions.specs.Regions.{nameAt, entryOf, tagOf, parentAt, levelAt, newestAt, oldestAt, countAt}
 use Rattle.pages.specs.declared.Pages.{Pages}
-use Rattle.pages.specs.Pages.{ownerAt, ownerOf, pagesOf}
+use Rattle.pages.specs.Pages.{ownerAt, ownerOf}
 use Rattle.outcomes.specs.Store.{Store, frames, kinds, regions, pages}
 
 -- the pointer of object p, 0 for null; and a word of the model, with mark k, as the store holds it
@@ -68,32 +68,34 @@ pub record RegionsAgree (L : Model) (sp : List ℕ) (g : Regions) : Type 0 where
   pub rows : (f : ℕ → ℕ) → sumOf (λ i. pick (eqb (nameAt g i) 0) 0 (f (nameAt g i))) (upTo 64) ≡ sumOf (λ r. f (r .name)) (L .regions)
   pub entry : (r : ℕ) → livesIn L r ≡ true → EntryAgrees sp (region (L .regions) r) g (entryOf g r)
 
--- the newest page of a region is its own, and has the room that the model says; with none there is no room
-pub record NewestAgrees (room : ℕ) (p : Pages) (tag j : ℕ) : Type 0 where
+-- the newest page of a region is its own, and the model's, and has the room that the model says; with none there is no room
+pub record NewestAgrees (r : Region) (p : Pages) (tag j : ℕ) : Type 0 where
   pub made : j < p .made
   pub own : ownerAt p j ≡ tag
-  pub left : getD (p .taken) j 0 + room ≡ 64
+  pub page : r .newest ≡ j
+  pub left : getD (p .taken) j 0 + r .room ≡ 64
 
-abbrev pub RoomAgrees : ℕ → Pages → ℕ → ℕ → Type 0
-RoomAgrees room p tag zero = room ≡ 0
-RoomAgrees room p tag (suc j) = NewestAgrees room p tag j
+abbrev pub RoomAgrees : Region → Pages → ℕ → ℕ → Type 0
+RoomAgrees r p tag zero = r .room ≡ 0
+RoomAgrees r p tag (suc j) = NewestAgrees r p tag j
 
--- page j is free, or its owner is a live region
+-- page j is free, or its owner is the live region that the model says
 abbrev pub Owned : Model → Regions → Pages → ℕ → Type 0
-Owned L g p j = (ownerAt p j ≡ 0) ⊎ ((r : ℕ) × (livesIn L r ≡ true) × (ownerAt p j ≡ tagOf g r))
+Owned L g p j = let r = getD (L .holders) j 0 in ((r ≡ 0) × (ownerAt p j ≡ 0)) ⊎ ((livesIn L r ≡ true) × (ownerAt p j ≡ tagOf g r))
 
 pub record PagesAgree (L : Model) (g : Regions) (p : Pages) (words : ℕ) : Type 0 where
   pub some : 1 ≤ p .made
   pub most : p .made ≤ 256
   pub whole : words ≡ 64 * p .made
-  pub free : pagesOf p 0 ≡ L .free
-  pub held : (r : ℕ) → livesIn L r ≡ true → pagesOf p (tagOf g r) ≡ (region (L .regions) r) .pages
+  pub listed : length (L .holders) ≡ p .made
   pub owned : (j : ℕ) → j < p .made → Owned L g p j
-  pub room : (r : ℕ) → livesIn L r ≡ true → RoomAgrees ((region (L .regions) r) .room) p (tagOf g r) (newestAt g (entryOf g r))
+  pub room : (r : ℕ) → livesIn L r ≡ true → RoomAgrees (region (L .regions) r) p (tagOf g r) (newestAt g (entryOf g r))
 
--- object p, whose kind has the marks ms, stands in the heap at its pointer
+-- object p, whose kind has the marks ms, stands in the heap at its pointer, and where the model says
 pub record Laid (heap sp ms : List ℕ) (p : ℕ) (o : Object) : Type 0 where
   pub placed : 1 ≤ spot sp p
+  pub page : (spot sp p - 1) / 64 ≡ o .page
+  pub word : (spot sp p - 1) % 64 ≡ o .word
   pub inside : spot sp p + length (o .words) ≤ length heap
   pub header : getD heap (spot sp p - 1) 0 ≡ o .kind
   pub words : (w : ℕ) → w < length (o .words) → getD heap (spot sp p + w) 0 ≡ imageOf sp (getD ms w 0) (getD (o .words) w 0)

@@ -76,7 +76,7 @@ calls =
     ("pages", 1, 1) ∷ ("declare", 0, 64) ∷ ("new_region", 0, 0) ∷ ("subregion", 1, 1) ∷ ("push", 1, 1) ∷ ("drop", 0, 0) ∷ ("hand_back", 2, 2)
     ∷ ("allocate", 3, 3) ∷ ("first", 2, 2) ∷ ("copy", 2, 2) ∷ ("fetch", 2, 2) ∷ ("clear", 1, 1) ∷ ("load", 3, 3) ∷ ("set_pointer", 3, 3)
     ∷ ("put", 3, 3) ∷ ("get", 2, 2) ∷ ("view", 1, 1) ∷ ("same", 2, 2) ∷ ("about", 1, 1) ∷ ("report", 1, 1) ∷ ("totals", 0, 0) ∷ ("audit", 0, 0)
-    ∷ ("delete", 1, 1) ∷ ("delete_all", 0, 64) ∷ []
+    ∷ ("delete", 1, 1) ∷ ("delete_all", 0, 64) ∷ ("locate", 1, 1) ∷ []
 
 -- the number of the last call; the first after `pages` is 2
 abbrev pub lastCall : ℕ

@@ -18,7 +18,7 @@ pub struct Line {
 const NO_CALL: u32 = 255;
 
 // The number of the last call.
-const LAST_CALL: u64 = 24;
+const LAST_CALL: u64 = 25;
 
 // Where a word begins, and where it ends.
 struct Span {
@@ -141,7 +141,7 @@ fn named(w: &[u8]) -> u32
 {
     place_of(
         w,
-        b"pages declare new_region subregion push drop hand_back allocate first copy fetch clear load set_pointer put get view same about report totals audit delete delete_all",
+        b"pages declare new_region subregion push drop hand_back allocate first copy fetch clear load set_pointer put get view same about report totals audit delete delete_all locate",
     ) as u32
 }
 
@@ -161,7 +161,7 @@ fn least(n: u32) -> u32
     ensures { λ r. ⌜ r ≡ getD least n 0 ⌝ }
 {
     cells::byte(
-        b"\x00\x01\x00\x00\x01\x01\x00\x02\x03\x02\x02\x02\x01\x03\x03\x03\x02\x01\x02\x01\x01\x00\x00\x01\x00",
+        b"\x00\x01\x00\x00\x01\x01\x00\x02\x03\x02\x02\x02\x01\x03\x03\x03\x02\x01\x02\x01\x01\x00\x00\x01\x00\x01",
         n as usize,
     )
 }
@@ -171,7 +171,7 @@ fn most(n: u32) -> u32
     ensures { λ r. ⌜ r ≡ getD most n 0 ⌝ }
 {
     cells::byte(
-        b"\x00\x01\x40\x00\x01\x01\x00\x02\x03\x02\x02\x02\x01\x03\x03\x03\x02\x01\x02\x01\x01\x00\x00\x01\x40",
+        b"\x00\x01\x40\x00\x01\x01\x00\x02\x03\x02\x02\x02\x01\x03\x03\x03\x02\x01\x02\x01\x01\x00\x00\x01\x40\x01",
         n as usize,
     )
 }

@@ -6,7 +6,7 @@ use mathlib.Core.List.{List, [], _∷_}
 use Prim.Native.Nat.{ℕ, _+_, _-_}
 use lib.Dec.{leb}
 use lib.ListN.{length, getD}
-use Rattle.model.specs.Model.{Call, declare, newRegion, subregion, push, dropFrame, handBack, allocate, first, copy, fetch, clear, load, setPointer, put, get, view, same, about, report, totals, audit, delete, deleteAll, refusedBy}
+use Rattle.model.specs.Model.{Call, declare, newRegion, subregion, push, dropFrame, handBack, allocate, first, copy, fetch, clear, load, setPointer, put, get, view, same, about, report, totals, audit, delete, deleteAll, locate, ask, refusedBy}
 use Rattle.state.specs.declared.Reply.{Reply}
 use Rattle.outcomes.specs.Store.{Store}
 use Rattle.outcomes.specs.Outcome.{Outcome, answerOf}
@@ -14,7 +14,7 @@ use Rattle.outcomes.specs.Outcome.{Outcome, answerOf}
 -- the calls from number 2 on, in order, with their arguments from the left: four numbers, and a list, declare's marks or deleteAll's names
 abbrev pub numbered : ℕ → ℕ → ℕ → ℕ → List ℕ → List Call
 numbered a b c d list =
-    declare list ∷ newRegion ∷ subregion a ∷ push a ∷ dropFrame ∷ handBack a b ∷ allocate a b c ∷ first a b ∷ copy a b ∷ fetch a b ∷ clear a ∷ load a b c ∷ setPointer a b c ∷ put a b c ∷ get a b ∷ view a ∷ same a b ∷ about a ∷ report a ∷ totals ∷ audit ∷ delete a ∷ deleteAll list ∷ []
+    declare list ∷ newRegion ∷ subregion a ∷ push a ∷ dropFrame ∷ handBack a b ∷ allocate a b c ∷ first a b ∷ copy a b ∷ fetch a b ∷ clear a ∷ load a b c ∷ setPointer a b c ∷ put a b c ∷ get a b ∷ view a ∷ same a b ∷ about a ∷ report a ∷ totals ∷ audit ∷ delete a ∷ deleteAll list ∷ ask (locate a) ∷ []
 
 -- the number of the last of them
 abbrev pub lastCall : ℕ

@@ -1,5 +1,6 @@
 // The region store: what a user imports. Every call of document 01, and of document 02's cards, under its name, and `call`, which takes the call's number.
 pub use calls_about::about;
+pub use calls_about::locate;
 pub use calls_about::same;
 pub use calls_about::totals;
 pub use calls_allocate::allocate;
@@ -30,8 +31,8 @@ pub use state::State;
 ghost use Rattle.outcomes.specs.Outcome.{store};
 ghost use Rattle.store.specs.Dispatch.{Dispatched};
 
-// The call numbered `number`, as document 01 numbers its calls, or 24 for delete_all, with its arguments from the left; what it does not take is ignored. The list is declare's marks
-// or delete_all's names.
+// The call numbered `number`, as document 01 numbers its calls, 24 for delete_all and 25 for locate, with its arguments from the left; what it does not take is ignored. The list is
+// declare's marks or delete_all's names.
 // A number that is no call's is answered 24. View's part is had from `view`.
 pub fn call(
     s: State,
@@ -93,6 +94,10 @@ pub fn call(
         },
         23 => delete(s, heap, a),
         24 => delete_all(s, heap, list),
+        25 => Done {
+            state: s,
+            reply: locate(s, heap, a),
+        },
         _ => Done {
             state: s,
             reply: checks::refused(24),

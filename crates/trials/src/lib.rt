@@ -52,6 +52,8 @@ pub const DELETE: u32 = 23;
 
 pub const DELETE_ALL: u32 = 24;
 
+pub const LOCATE: u32 = 25;
+
 // How many of three numbers stand before the first that is 0.
 fn before_zero(a: u32, b: u32, c: u32) -> usize {
     if a == 0 {

@@ -6,7 +6,7 @@ use mathlib.Core.Bool.{Bool, true, false}
 use mathlib.Core.List.{List, [], map}
 use Prim.Native.Nat.{ℕ, _-_, _/_, _<_}
 use lib.Dec.{eqb}
-use lib.ListN.{length}
+use lib.ListN.{length, getD}
 use borrow.Author.Tests.{ne-eqb}
 use Rattle.lists.specs.Lists.{pick, sumOf, upTo}
 use Rattle.lists.specs.Laws.Tests.{or-right}
@@ -48,8 +48,9 @@ module _ {L : Model} {sp : List ℕ} {ids : ℕ → List ℕ} (S : Store) (a : A
     where
       go : Owned L (regions S) (pages S) j
           → headersOf S j ≡ pick (eqb (ownerAt (pages S) j) 0) [] (map (λ q. spot sp q - 1) (ids j))
-      go (inl e) = rw e
-      go (inr (r, l, e)) =
+      go (inl (z, e)) = rw e
+      go (inr (l, e)) =
+          let r = getD (L .holders) j 0 in
           let n : ownerAt (pages S) j ≢ 0 = λ z. tag-some (regions S) r (sym e ∙ z) in
           let m : holderOf S j ≢ 0 = λ z. live-named (a .onRegions) r l (sym (holder-is r j l e) ∙ z) in
           rw (ne-eqb (holderOf S j) 0 m, ne-eqb (ownerAt (pages S) j) 0 n) (headers-on L sp ids (regions S) (kinds S) (pages S) (S .heap) (a .valid) (a .onKinds) (a .onObjects) j h n)

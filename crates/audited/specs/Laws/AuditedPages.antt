@@ -1,30 +1,28 @@
--- A model that a memory represents has lost no page, and its regions' objects lie in their pages.
+-- In a model that a memory represents each page is free or a live region's, and no region's objects take more words than its pages have.
 -- Assumes nothing.
 use mathlib.Core.Path.{_≡_, refl, sym, ap, _∙_, fun-ext}
 use mathlib.Core.Logic.{_≢_}
-use mathlib.Core.Bool.{Bool, true, false}
+use mathlib.Core.Bool.{Bool, true}
 use mathlib.Core.List.{List, [], _∷_}
 use Prim.Native.Nat.{ℕ, zero, suc, _+_, _*_, _≤_, _<_}
 use native.Mathlib.Omega.{arith}
 use lib.Dec.{eqb}
 use lib.ListN.{length, getD}
 use borrow.Author.Tests.{eqb-true, eq-eqb}
-use Rattle.lists.specs.Lists.{bit, pick, sumOf, countOf, All, upTo}
+use Rattle.lists.specs.Lists.{pick, sumOf, All, upTo}
 use Rattle.lists.specs.Laws.Tests.{by-test, bit-pick}
 use Rattle.lists.specs.Laws.All.{all-map, all-both}
-use Rattle.lists.specs.Laws.Sums.{sum-same, sum-plus, sum-ones}
-use Rattle.lists.specs.Laws.UpTo.{length-upTo}
-use Rattle.lists.specs.Laws.Kept.{sum-slack}
-use Rattle.model.specs.Model.{Model, Region, region, livesIn}
+use Rattle.lists.specs.Laws.Kept.{all-places, sum-slack}
+use Rattle.model.specs.Model.{Model, Region, region, livesIn, heldBy}
 use Rattle.model.specs.Laws.Regions.{found-itself}
 use Rattle.model.specs.Paged.{Paged, Lies, space, spaceOf}
 use Rattle.regions.specs.Regions.{tagOf, entryOf, newestAt}
-use Rattle.pages.specs.Pages.{ownerAt, pagesOf, pageCount, pagesIn}
+use Rattle.pages.specs.Pages.{ownerAt}
 use Rattle.outcomes.specs.Store.{Store, regions, pages}
 use Rattle.refinement.specs.Represents.{wordsIn, Tiles, RoomAgrees}
 use Rattle.refinement.specs.Laws.Tags.{tag-some}
-use Rattle.refinement.specs.Laws.Reads.{page-count}
-use Rattle.refinement.specs.Laws.Report.{names-live, ids-objects, held-pages}
+use Rattle.refinement.specs.Laws.Reads.{pages-by, owner-for, held-are}
+use Rattle.refinement.specs.Laws.Report.{names-live, ids-objects}
 use Rattle.audited.specs.Laws.AuditedObjects.{Agrees}
 
 pub tiles-sum : (L : Model) (sp : List ℕ) (a e : ℕ) (ps : List ℕ) → Tiles L sp a e ps → a + sumOf (λ q. length (wordsIn L q) + 1) ps ≡ e
@@ -40,38 +38,14 @@ module _ {L : Model} {sp : List ℕ} {ids : ℕ → List ℕ} (S : Store) (a : A
   own : All (λ g. (livesIn L (g .name) ≡ true) × (region (L .regions) (g .name) ≡ g)) (L .regions)
   own = all-both _ _ (L .regions) (names-live (L .regions)) (found-itself (L .regions) (a .valid .names .distinct))
 
-  -- the pages with tag t
-  pages-by : (t : ℕ) → pagesOf (pages S) t ≡ sumOf (λ j. bit (eqb (ownerAt (pages S) j) t)) (upTo ((pages S) .made))
-  unfolding pagesOf pagesIn ownerAt pageCount
-  pages-by t = ap (λ n. countOf (λ j. eqb (ownerAt (pages S) j) t) (upTo n)) (page-count (a .onPages))
-
   -- whether the region named r holds page j, and the words that its objects take there
   abbrev holds : ℕ → ℕ → Bool
   holds r j = eqb (ownerAt (pages S) j) (tagOf (regions S) r)
 
-  pages-of : (g : Region) → (livesIn L (g .name) ≡ true) × (region (L .regions) (g .name) ≡ g) → g .pages ≡ sumOf (λ j. pick (holds (g .name) j) 1 0) (upTo ((pages S) .made))
-  pages-of g h =
-      ap (λ x. x .pages) (sym (h .1)) ∙ sym (a .onPages .held (g .name) (h .0)) ∙ pages-by (tagOf (regions S) (g .name))
+  pages-of : (g : Region) → livesIn L (g .name) ≡ true → heldBy L (g .name) ≡ sumOf (λ j. pick (holds (g .name) j) 1 0) (upTo ((pages S) .made))
+  pages-of g l =
+      sym (held-are (a .onRegions) (a .onPages) (g .name) l) ∙ pages-by (a .onPages) (tagOf (regions S) (g .name))
       ∙ ap (λ f. sumOf f (upTo ((pages S) .made))) (fun-ext (λ j. bit-pick (holds (g .name) j)))
-
-  whole : L .free + sumOf (λ g. g .pages) (L .regions) ≡ (pages S) .made
-  whole =
-      let free : ℕ → Bool = λ j. eqb (ownerAt (pages S) j) 0 in
-      omega (
-        arith,
-        a .onPages .free,
-        pages-by 0,
-        sum-same (λ g. g .pages) _ (L .regions) (all-map pages-of (L .regions) own),
-        held-pages L sp ids (regions S) (pages S) (S .heap) (a .valid) (a .onRegions) (a .onPages) (a .onObjects) (λ j. 1),
-        sum-plus (λ j. bit (free j)) (λ j. pick (free j) 0 1) (upTo ((pages S) .made)),
-        ap (λ f. sumOf f (upTo ((pages S) .made))) (fun-ext (λ j. go (free j))),
-        sum-ones (upTo ((pages S) .made)),
-        length-upTo ((pages S) .made),
-      )
-    where
-      go : (b : Bool) → bit b + pick b 0 1 ≡ 1
-      go true = refl
-      go false = refl
 
   lies : (g : Region) → (livesIn L (g .name) ≡ true) × (region (L .regions) (g .name) ≡ g) → Lies L g
   unfolding space
@@ -86,8 +60,8 @@ module _ {L : Model} {sp : List ℕ} {ids : ℕ → List ℕ} (S : Store) (a : A
       space-is : sumOf (spaceOf (g .name)) (L .objects) ≡ sumOf taken (upTo n)
       space-is = sym (ids-objects L (spaceOf (g .name))) ∙ sym (a .onObjects .once (g .name) (h .0) (λ q. length (wordsIn L q) + 1))
 
-      pages-are : 64 * g .pages ≡ sumOf (λ j. 64 * pick (holds (g .name) j) 1 0) (upTo n)
-      pages-are = omega (arith, pages-of g h, sum-times (λ j. pick (holds (g .name) j) 1 0) (upTo n))
+      pages-are : 64 * heldBy L (g .name) ≡ sumOf (λ j. 64 * pick (holds (g .name) j) 1 0) (upTo n)
+      pages-are = omega (arith, pages-of g (h .0), sum-times (λ j. pick (holds (g .name) j) 1 0) (upTo n))
 
       -- a page that the region holds
       on-page : (j : ℕ) → j < n → holds (g .name) j ≡ true → (sumOf (λ q. length (wordsIn L q) + 1) (ids j) ≡ getD ((pages S) .taken) j 0) × (getD ((pages S) .taken) j 0 ≤ 64)
@@ -98,10 +72,10 @@ module _ {L : Model} {sp : List ℕ} {ids : ℕ → List ℕ} (S : Store) (a : A
       few : (j : ℕ) → j < n → taken j ≤ 64 * pick (holds (g .name) j) 1 0
       few j k = by-test (holds (g .name) j) (λ e. let t = on-page j k e in rw e (omega arith)) (λ e. rw e (omega arith))
 
-      left : (k c : ℕ) → k < n → taken k + c ≤ 64 * pick (holds (g .name) k) 1 0 → sumOf (spaceOf (g .name)) (L .objects) + c ≤ 64 * g .pages
+      left : (k c : ℕ) → k < n → taken k + c ≤ 64 * pick (holds (g .name) k) 1 0 → sumOf (spaceOf (g .name)) (L .objects) + c ≤ 64 * heldBy L (g .name)
       left k c l e = omega (arith, space-is, pages-are, sum-slack taken (λ j. 64 * pick (holds (g .name) j) 1 0) n k c few l e)
 
-      room : (x : ℕ) → RoomAgrees (g .room) (pages S) (tagOf (regions S) (g .name)) x → sumOf (spaceOf (g .name)) (L .objects) + g .room ≤ 64 * g .pages
+      room : (x : ℕ) → RoomAgrees g (pages S) (tagOf (regions S) (g .name)) x → sumOf (spaceOf (g .name)) (L .objects) + g .room ≤ 64 * heldBy L (g .name)
       room zero e = omega (arith, left 0 0 (a .onPages .some) (omega (arith, few 0 (a .onPages .some))))
       room (suc j) e =
           let o : holds (g .name) j ≡ true = eq-eqb (ownerAt (pages S) j) (tagOf (regions S) (g .name)) (e .own) in
@@ -109,4 +83,8 @@ module _ {L : Model} {sp : List ℕ} {ids : ℕ → List ℕ} (S : Store) (a : A
           left j (g .room) (e .made) (rw o (omega (arith, e .left)))
 
   pub paged : Paged ((pages S) .made) L
-  paged = record { whole = whole; fits = all-map lies (L .regions) own }
+  paged = record {
+    whole = a .onPages .listed;
+    held = all-places _ (L .holders) 0 (λ j h. owner-for (a .onRegions) (a .onPages) j (omega (arith, a .onPages .listed)) .0);
+    fits = all-map lies (L .regions) own;
+  }

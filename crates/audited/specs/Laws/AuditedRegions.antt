@@ -92,7 +92,7 @@ module _ {L : Model} {sp : List ℕ} {ids : ℕ → List ℕ} (S : Store) (a : A
     unfolding newestOwn tagOf
     own-newest = go (newestAt (regions S) i) (a .onPages .room r l)
       where
-        go : (n : ℕ) → RoomAgrees (g .room) (pages S) (tagOf (regions S) r) n → elim n [ zero ↦ true | suc j ↦ ltb j (pageCount (pages S)) && eqb (ownerAt (pages S) j) (i + 1) ] ≡ true
+        go : (n : ℕ) → RoomAgrees g (pages S) (tagOf (regions S) r) n → elim n [ zero ↦ true | suc j ↦ ltb j (pageCount (pages S)) && eqb (ownerAt (pages S) j) (i + 1) ] ≡ true
         go zero h = refl
         go (suc j) h = rw (lt-ltb j (pageCount (pages S)) (omega (arith, page-count (a .onPages), h .made)), eq-eqb (ownerAt (pages S) j) (i + 1) (h .own))
 

@@ -4,7 +4,7 @@ use mathlib.Core.Path.{_≡_, refl, sym, ap, _∙_, subst, fun-ext}
 use mathlib.Core.Logic.{_≢_}
 use mathlib.Core.Bool.{Bool, true, false, _&&_, _||_, true≢false}
 use mathlib.Core.List.{List, [], map}
-use Prim.Native.Nat.{ℕ, zero, suc, _-_, _*_, _/_, _≤_, _<_}
+use Prim.Native.Nat.{ℕ, zero, suc, _-_, _*_, _/_, _%_, _≤_, _<_}
 use native.Mathlib.Omega.{arith}
 use lib.Dec.{eqb, ltb, leb}
 use lib.ListN.{length, getD, length-map, List·getD-eq-default}
@@ -143,6 +143,8 @@ module _ (S : Store) where
         let e : spot (places S) (suc i) - 1 ≡ q = omega (arith, spot-at S i h) in
         record {
           placed = omega (arith, spot-at S i h);
+          page = ap (λ n. n / 64) e;
+          word = ap (λ n. n % 64) e;
           inside = omega (arith, spot-at S i h, words-length q, t .within, t .page, pages-all S sh so, eqb-true (length (S .heap)) (64 * (pages S) .made) (so .heapLength));
           header = rw e;
           words = λ w l.

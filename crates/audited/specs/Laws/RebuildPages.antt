@@ -3,16 +3,16 @@
 use mathlib.Core.Path.{_≡_, refl, sym, ap, _∙_}
 use mathlib.Core.Logic.{_≢_, inl, inr}
 use mathlib.Core.Bool.{true, _&&_, false≢true}
-use Prim.Native.Nat.{ℕ, zero, suc, _+_, _-_, _*_, _≤_, _<_}
+use Prim.Native.Nat.{ℕ, zero, suc, _+_, _*_, _≤_, _<_}
 use native.Mathlib.Omega.{arith}
 use lib.Dec.{eqb, ltb}
 use lib.ListN.{length, getD}
 use borrow.Author.Tests.{ltb-true, eqb-true, eqb-false, eq-eqb, ne-eqb}
 use Rattle.lists.specs.Lists.{sumOf}
 use Rattle.lists.specs.Laws.Tests.{by-test, both, or-other}
-use Rattle.lists.specs.Laws.UpTo.{every-each}
+use Rattle.lists.specs.Laws.UpTo.{every-each, getD-map-upTo, length-map-upTo}
 use Rattle.model.specs.Model.{region}
-use Rattle.regions.specs.Regions.{nameAt, tagOf, entryOf, newestAt}
+use Rattle.regions.specs.Regions.{nameAt, nameOf, nameIn, tagOf, entryOf, newestAt}
 use Rattle.pages.specs.Pages.{pageCount, ownerAt, takenAt}
 use Rattle.objects.specs.Objects.{headersOn}
 use Rattle.outcomes.specs.Store.{Store, kinds, regions, pages}
@@ -21,7 +21,7 @@ use Rattle.outcomes.specs.Shape.{Sized}
 use Rattle.outcomes.specs.Laws.Begin.{holderOf, pages-held, pages-filled}
 use Rattle.outcomes.specs.Laws.Tree.{each-used}
 use Rattle.refinement.specs.Represents.{RoomAgrees, PagesAgree}
-use Rattle.audited.specs.Rebuild.{roomAt, readRegion, rebuilt}
+use Rattle.audited.specs.Rebuild.{roomOf, readRegion, rebuilt}
 use Rattle.audited.specs.Laws.RebuildWalk.{stacked-sum}
 use Rattle.audited.specs.Laws.RebuildObjects.{wordsAt, on-stacked}
 use Rattle.audited.specs.Laws.RebuildStack.{within-is}
@@ -52,31 +52,32 @@ module _ (S : Store) (sh : Sized S) (so : Sound S) where
   unfolding takenAt
   full j h n = omega (arith, taken-sum j h n, stacked-sum (wordsAt S) (64 * j) (64 * j + takenAt (pages S) j) (headersOn (kinds S) (S .heap) (pages S) j) (on-stacked S j))
 
-  room-agrees : (i t : ℕ) → nameAt (regions S) i ≢ 0 → i + 1 ≡ t → RoomAgrees (roomAt S i) (pages S) t (newestAt (regions S) i)
-  unfolding roomAt newestOwn
-  room-agrees i t h e = go (newestAt (regions S) i) (each-used S (sh .inRegions .names) (newestOwn S) (so .newest) i h)
+  room-agrees : (i t : ℕ) → nameAt (regions S) i ≢ 0 → i + 1 ≡ t → RoomAgrees (readRegion S i) (pages S) t (newestAt (regions S) i)
+  unfolding readRegion newestOwn
+  room-agrees i t h e = go (newestAt (regions S) i) refl (each-used S (sh .inRegions .names) (newestOwn S) (so .newest) i h)
     where
-      go : (n : ℕ) → elim n [ zero ↦ true | suc j ↦ ltb j (pageCount (pages S)) && eqb (ownerAt (pages S) j) (i + 1) ] ≡ true
-          → RoomAgrees (elim n [ zero ↦ 0 | suc j ↦ 64 - getD ((pages S) .taken) j 0 ]) (pages S) t n
-      go zero q = refl
-      go (suc j) q =
+      go : (n : ℕ) → newestAt (regions S) i ≡ n → elim n [ zero ↦ true | suc j ↦ ltb j (pageCount (pages S)) && eqb (ownerAt (pages S) j) (i + 1) ] ≡ true
+          → RoomAgrees (readRegion S i) (pages S) t n
+      go zero x q = ap (roomOf S) x
+      go (suc j) x q =
           let u = both (ltb j (pageCount (pages S))) (eqb (ownerAt (pages S) j) (i + 1)) q in
           let m : j < (pages S) .made = omega (arith, pages-all, ltb-true j (pageCount (pages S)) (u .0)) in
           let o : ownerAt (pages S) j ≡ t = eqb-true (ownerAt (pages S) j) (i + 1) (u .1) ∙ e in
-          record { made = m; own = o; left = omega (arith, full j m (λ z. omega arith)) }
+          record { made = m; own = o; page = omega (arith, x); left = omega (arith, ap (roomOf S) x, full j m (λ z. omega arith)) }
 
   pub pages-agree : PagesAgree (rebuilt S) (regions S) (pages S) (length (S .heap))
-  unfolding rebuilt readRegion tagOf
+  unfolding rebuilt nameOf nameIn tagOf
   pages-agree = record {
     some = pages-some .0;
     most = pages-some .1;
     whole = eqb-true (length (S .heap)) (64 * (pages S) .made) (so .heapLength);
-    free = refl;
-    held = λ r l. sym (ap (λ g. g .pages) (read S sh so r l .is));
-    owned = λ j h. by-test (eqb (ownerAt (pages S) j) 0) (λ e. inl (eqb-true (ownerAt (pages S) j) 0 e)) (λ e.
+    listed = length-map-upTo (holderOf S) (pageCount (pages S)) ∙ pages-all;
+    owned = λ j h.
+        let k = getD-map-upTo (holderOf S) 0 (pageCount (pages S)) j (omega (arith, pages-all)) in
+        by-test (eqb (ownerAt (pages S) j) 0) (λ e. let z = eqb-true (ownerAt (pages S) j) 0 e in inl (k ∙ ap (nameOf (regions S)) z, z)) (λ e.
         let n = held j h (eqb-false (ownerAt (pages S) j) 0 e) in
-        inr (holderOf S j, live-name S sh (ownerAt (pages S) j) n, sym (tag-name S sh so (ownerAt (pages S) j) n)));
+        inr (rw k (live-name S sh (ownerAt (pages S) j) n), sym (ap (tagOf (regions S)) k ∙ tag-name S sh so (ownerAt (pages S) j) n)));
     room = λ r l.
         let t = read S sh so r l in
-        rw (ap (λ g. g .room) (t .is)) (room-agrees (entryOf (regions S) r) (tagOf (regions S) r) (λ z. t .some (sym (t .name) ∙ z)) refl);
+        rw (t .is) (room-agrees (entryOf (regions S) r) (tagOf (regions S) r) (λ z. t .some (sym (t .name) ∙ z)) refl);
   }

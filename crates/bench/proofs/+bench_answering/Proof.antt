@@ -15,6 +15,7 @@ use Rattle.bench.proofs.viewed.Reads as viewed-reads
 use Rattle.store.proofs.audit.Reads as audit-reads
 use Rattle.store.proofs.report.Reads as report-reads
 use Rattle.store.proofs.about.Reads as about-reads
+use Rattle.store.proofs.locate.Reads as locate-reads
 use Rattle.store.proofs.same.Reads as same-reads
 use Rattle.store.proofs.totals.Reads as totals-reads
 use Rattle.store.proofs.get.Reads as get-reads
@@ -39,9 +40,9 @@ abbrev μ-loop : bench-answering-lts.MeasureT-loop
 μ-loop heap₀ once again times which n s sum₀ i₀ heap sum i = n - i
 
 pub +bench-answering-spec : {M : Type 1} → statement M
-+bench-answering-spec = close μ-bench-answering (λ t. bench-answering-lts.spec (bench-answering-below t, bench-answering.Post, prepared-for-reads.Asked, prepared-for-reads.Learnt, put-reads.Asked, put-reads.Learnt, get-reads.Asked, get-reads.Learnt, view-reads.Asked, view-reads.Learnt, viewed-reads.Asked, viewed-reads.Learnt, same-reads.Asked, same-reads.Learnt, about-reads.Asked, about-reads.Learnt, report-reads.Asked, report-reads.Learnt, totals-reads.Asked, totals-reads.Learnt, audit-reads.Asked, audit-reads.Learnt, noted-reads.Asked, noted-reads.Learnt) (bench-answering-at t) bench-answering.Post Inv-loop μ-loop
++bench-answering-spec = close μ-bench-answering (λ t. bench-answering-lts.spec (bench-answering-below t, bench-answering.Post, prepared-for-reads.Asked, prepared-for-reads.Learnt, put-reads.Asked, put-reads.Learnt, get-reads.Asked, get-reads.Learnt, view-reads.Asked, view-reads.Learnt, viewed-reads.Asked, viewed-reads.Learnt, same-reads.Asked, same-reads.Learnt, about-reads.Asked, about-reads.Learnt, report-reads.Asked, report-reads.Learnt, totals-reads.Asked, totals-reads.Learnt, locate-reads.Asked, locate-reads.Learnt, audit-reads.Asked, audit-reads.Learnt, noted-reads.Asked, noted-reads.Learnt) (bench-answering-at t) bench-answering.Post Inv-loop μ-loop
     (λ c κs. search needs) (λ c. search needs) (λ c. search needs) (λ c κs. search needs) (λ c. search needs) (λ c. search needs)
-    (λ c κs. search needs) (λ c κs. search needs) (λ c. search needs) (λ c κs. search needs) (λ c κs. search needs) (λ c κs. search needs) (λ c κs. search needs) (λ c κs. search needs) (λ c κs. search needs) (λ c κs. search needs)
+    (λ c κs. search needs) (λ c κs. search needs) (λ c. search needs) (λ c κs. search needs) (λ c κs. search needs) (λ c κs. search needs) (λ c κs. search needs) (λ c κs. search needs) (λ c κs. search needs) (λ c κs. search needs) (λ c κs. search needs)
     (λ c κs. search needs) (λ c. search needs)
     (λ c. let inv = c .before .before .before .loop .inv in ⊎-elim (λ w. (omega arith, search (needs, inv, w .3)))
     (⊎-elim (λ w. (omega arith, search (needs, inv)))
@@ -49,5 +50,6 @@ pub +bench-answering-spec : {M : Type 1} → statement M
     (⊎-elim (λ w. (omega arith, search (needs, inv)))
     (⊎-elim (λ w. (omega arith, search (needs, inv)))
     (⊎-elim (λ w. (omega arith, search (needs, inv)))
-    (⊎-elim (λ w. (omega arith, search (needs, inv))) (λ w. (omega arith, search (needs, inv, w .3))))))))) (c .before .match .came))
+    (⊎-elim (λ w. (omega arith, search (needs, inv)))
+    (⊎-elim (λ w. (omega arith, search (needs, inv))) (λ w. (omega arith, search (needs, inv, w .3)))))))))) (c .before .match .came))
     (λ c. search needs) (λ c. search needs))

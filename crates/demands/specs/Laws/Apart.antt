@@ -38,7 +38,7 @@ use Rattle.outcomes.specs.Laws.Bounded.{below-at}
 use Rattle.outcomes.specs.Laws.Apart.{apart, mine, outBy, outFrom, each-is, turns-are, leftBy, freeing, not-yet, freeing-own, freeing-other, given-is}
 use Rattle.outcomes.specs.Laws.Deleted.{left-are, scan-leaves, told-pages, entries, gone, deleted-leaves, told, free, told-gone, told-deleted, told-number}
 use Rattle.promises.specs.Laws.Passed.{passed}
-use Rattle.demands.specs.Later.{ScanMovesNoPage, GivingMovesNoCount, ScansThenGives, SameDelete, OneButGone, OneOutcome, DeleteIs, DeleteAllIs}
+use Rattle.demands.specs.Later.{ScanMovesNoPage, GivingMovesNoCount, ScansThenGives, SameDelete, OneButGone, DeleteIs, DeleteAllIs}
 
 -- ---- what stays
 
@@ -252,24 +252,6 @@ pub scans-then-gives : ScansThenGives
 unfolding ScansThenGives
 scans-then-gives S sized = (delete-told S sized, delete-all-told S sized, asks-scanned S sized)
 
--- ---- one outcome
-
-module _ (c : Call) (S : Store) (g : Answer) (L : Store) (accepts : (a : Answer) (T : Store) → Accepted c S a T ≡ Leaves a g T L) where
-  one-answered : (n : ℕ) (a b : Answer) (T U : Store) → Answered n c S a T → Answered n c S b U → (a ≡ b) × (T ≡ U)
-  one-answered zero a b T U x y =
-      let p = rw (accepts a T) at x in
-      let q = rw (accepts b U) at y in
-      (p .0 ∙ sym (q .0), p .1 ∙ sym (q .1))
-  one-answered (suc n) a b T U x y = (x .0 ∙ sym (y .0), x .1 ∙ sym (y .1))
-
-one-delete : (r : ℕ) → OneOutcome (delete r)
-unfolding Outcome
-one-delete r S a b T U = one-answered (delete r) S _ _ (accepts-one S r) (refusal S (delete r)) a b T U
-
-one-delete-all : (rs : List ℕ) → OneOutcome (deleteAll rs)
-unfolding Outcome
-one-delete-all rs S a b T U = one-answered (deleteAll rs) S _ _ (accepts-all S rs) (refusal S (deleteAll rs)) a b T U
-
 pub same-delete : SameDelete
 unfolding SameDelete
-same-delete = ((λ S sized. (delete-paged S sized, delete-all-paged S sized)), one-delete, one-delete-all)
+same-delete S sized = (delete-paged S sized, delete-all-paged S sized)

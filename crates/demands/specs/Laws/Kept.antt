@@ -16,7 +16,7 @@ use Rattle.lists.specs.Laws.Sums.{sum-append, sum-map, sum-keep, sum-same}
 use Rattle.lists.specs.Laws.Finds.{map-append}
 use Rattle.lists.specs.Laws.UpTo.{sum-from-suc, all-from}
 use Rattle.model.specs.Model.{Model, Region, Object, noObject, object, called, live, livesIn, homeIn, topPlace, top, slot}
-use Rattle.model.specs.Calls.{fillSlot, popFrame, replaced, withWord, withObjects, writeWord, addRegion, grown, addObject, others, removeRegions, size}
+use Rattle.model.specs.Calls.{fillSlot, popFrame, replaced, withWord, withObjects, writeWord, addRegion, pageFor, grown, addObject, others, removeRegions, size}
 use Rattle.model.specs.Calls as model
 use Rattle.model.specs.Valid.{Valid}
 use Rattle.model.specs.Laws.Regions.{live-less, live-others, live-removed}
@@ -85,7 +85,7 @@ module _ {L : Model} {sp : List ℕ} {h : History} (t : Tells L sp h) where
   pub region-told : Valid L → (u l : ℕ) → Tells (addRegion L u l) sp (born h (L .given + 1) u)
   unfolding addRegion born
   region-told v u l =
-      let g : Region = record { name = L .given + 1; parent = u; level = l; pages = 0; room = 0; oldest = 0 } in
+      let g : Region = record { name = L .given + 1; parent = u; level = l; newest = 0; room = 0; oldest = 0 } in
       record {
         kinds = t .kinds;
         frames = t .frames;
@@ -115,11 +115,11 @@ module _ {L : Model} {sp : List ℕ} {h : History} (t : Tells L sp h) where
   -- ---- objects
 
   module _ (r k p : ℕ) (lr : livesIn L r ≡ true) (len : length sp ≡ length (L .objects)) where
-    regions-kept : (g : Region) → listed (pick (called r g) (grown (size L k) (newId L) g) g) ≡ listed g
+    regions-kept : (j : ℕ) (g : Region) → listed (pick (called r g) (grown (size L k) (newId L) j g) g) ≡ listed g
     unfolding grown
-    regions-kept g = go (called r g)
+    regions-kept j g = go (called r g)
       where
-        go : (b : Bool) → listed (pick b (grown (size L k) (newId L) g) g) ≡ listed g
+        go : (b : Bool) → listed (pick b (grown (size L k) (newId L) j g) g) ≡ listed g
         go true = refl
         go false = refl
 
@@ -150,7 +150,7 @@ module _ {L : Model} {sp : List ℕ} {h : History} (t : Tells L sp h) where
       kinds = t .kinds;
       frames = t .frames;
       counted = t .counted;
-      regions = λ f. t .regions f ∙ sym (sum-map (λ g. f (listed g)) _ (L .regions) ∙ ap (λ k. sumOf k (L .regions)) (fun-ext (λ g. ap f (regions-kept g))));
+      regions = λ f. t .regions f ∙ sym (sum-map (λ g. f (listed g)) _ (L .regions) ∙ ap (λ k. sumOf k (L .regions)) (fun-ext (λ g. ap f (regions-kept (pageFor L r (size L k)) g))));
       objects = λ f.
           let n = length (L .objects) in
           let one : ℕ → ℕ = λ q. adds f (spot sp₂ q) (object os₂ q) in

@@ -8,7 +8,7 @@ use Prim.Native.Nat.{ℕ, zero, suc, _+_, _/_, _≤_, _<_}
 use native.Mathlib.Nat.{add-zero}
 use native.Mathlib.Omega.{arith}
 use lib.Dec.{eqb, ltb}
-use lib.ListN.{length, set}
+use lib.ListN.{length, getD, set}
 use lib.Seq.{getD-set-other}
 use borrow.Author.Tests.{eq-eqb, ne-eqb, ltb-true}
 use Rattle.lists.specs.Lists.{bit, pick, every, keep, sumOf, All, joined, times, among}
@@ -67,8 +67,9 @@ module _ {L : Model} {sp : List ℕ} {h : History} {g : Regions} {p : Pages} {wo
   named-pages i x z = record { pages = u .pages; free = u .free; held = λ j l. u .held j l ∙ sym (holding-else (g .names) i x (ownerAt p j) (other j (pa .owned j l))); none = u .none }
     where
       other : (j : ℕ) → Owned L g p j → ownerAt p j ≢ i + 1
-      other j (inl o) e = omega arith
-      other j (inr (r, l, o)) e =
+      other j (inl (y, o)) e = omega arith
+      other j (inr (l, o)) e =
+          let r = getD (L .holders) j 0 in
           let d : entryOf g r ≡ i = omega arith in
           live-named ra r l (sym (entry-name ra r l) ∙ ap (nameAt g) d ∙ z)
 
@@ -106,9 +107,10 @@ module _ {L : Model} {sp : List ℕ} {h : History} {g : Regions} {p : Pages} {wo
     ended-page : (j : ℕ) → j < p .made → Owned L g p j
         → let o = ownerAt (freed p (map (tagOf g) rs)) j in
         (times j ((ended h rs) .free) ≡ bit (eqb o 0)) × (keep (λ q. not (among q rs)) (holders h j) ≡ holding (clearedAt (g .names) (map (entryOf g) rs)) o)
-    ended-page j l (inl o) =
+    ended-page j l (inl (z, o)) =
         rw (ended-free j, gone-owner p (map (tagOf g) rs) j (omega (arith, page-count pa)), u .free j l, u .held j l, o, pick-same {A = ℕ} (among 0 (map (tagOf g) rs)) 0) (omega (arith, freeings-none), refl)
-    ended-page j l (inr (q, lq, o)) =
+    ended-page j l (inr (lq, o)) =
+        let q = getD (L .holders) j 0 in
         rw (ended-free j, gone-owner p (map (tagOf g) rs) j (omega (arith, page-count pa)), u .free j l, u .held j l, o, holding-tag ra q lq, tag-among ra rs ls q lq, ne-eqb (tagOf g q) 0 (tag-some g q), freeings-one q)
         (by-test (among q rs) (λ e. rw e (refl, refl))
         (λ e. rw (e, ne-eqb (tagOf g q) 0 (tag-some g q)) (refl, sym (holding-left (g .names) (map (entryOf g) rs) (tagOf g q) (other-entry q e lq) ∙ holding-tag ra q lq))))

@@ -203,7 +203,7 @@ module _ {L : Model} {sp : List ℕ} {ids : ℕ → List ℕ} {S : Store} {h : H
 
   -- ---- the next set pointer
 
-  top-width : topWidth h ≡ length (top L)
+  pub top-width : topWidth h ≡ length (top L)
   top-width = ap (λ fs. getD fs (length fs - 1) 0) (t .frames) ∙ ap (λ n. getD (map length (L .frames)) (n - 1) 0) (length-map (L .frames) length) ∙ List·getD-map length (L .frames) (topPlace (L .frames)) []
 
   -- the test of a mark 3, by what the history tells

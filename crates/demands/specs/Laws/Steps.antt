@@ -1,6 +1,7 @@
 -- A call, accepted or refused, answers as the model does, and leaves a store that represents the model's next and a history that tells of it; so does any run.
 -- Assumes nothing.
 use mathlib.Core.Path.{_≡_, refl, sym, ap, ap₂, _∙_, subst, subst⁻¹}
+use mathlib.Core.Logic.{inl, inr, ⊎-elim}
 use mathlib.Core.Bool.{false}
 use mathlib.Core.List.{List, [], _∷_, _++_, map}
 use Prim.Native.Nat.{ℕ, zero, suc, _+_, _-_, _*_, _/_, _≤_, _<_}
@@ -10,7 +11,7 @@ use lib.ListN.{length, set}
 use lib.Seq.{getD-set-same}
 use borrow.Author.Tests.{eqb-false, leb-false, not-false}
 use Rattle.lists.specs.Lists.{bit, pick}
-use Rattle.model.specs.Model.{Model, Answer, Call, declare, newRegion, subregion, push, dropFrame, handBack, allocate, first, copy, fetch, clear, load, setPointer, put, get, view, same, about, report, totals, audit, delete, deleteAll}
+use Rattle.model.specs.Model.{Model, Answer, Call, declare, newRegion, subregion, push, dropFrame, handBack, allocate, first, copy, fetch, clear, load, setPointer, put, get, view, same, about, report, totals, audit, delete, deleteAll, ask}
 use Rattle.model.specs.Model.{livesIn, topPlace, top, stored, gives}
 use Rattle.model.specs.Calls.{checks, refusal, noFrame, lacks, reply, accepted, answer, answerBy, next, nextBy, run, after}
 use Rattle.model.specs.Valid.{Valid}
@@ -26,7 +27,7 @@ use Rattle.pages.specs.Pages.{takenAt, withTaken}
 use Rattle.outcomes.specs.Store.{Store, frames, regions, pages, roomy, size}
 use Rattle.outcomes.specs.History.{History, begin}
 use Rattle.outcomes.specs.Shape.{Sized}
-use Rattle.outcomes.specs.Outcome.{Chosen, allocated, fillSlot, popFrame, pointed, writeWord, recounted, deleted, Accepted, Answered, Outcome, refusal as storeRefusal}
+use Rattle.outcomes.specs.Outcome.{pageFor, allocated, fillSlot, popFrame, pointed, writeWord, recounted, deleted, Accepted, Answered, Outcome, refusal as storeRefusal}
 use Rattle.outcomes.specs.Laws.Decided.{is-sound}
 use Rattle.promises.specs.Promises.{Refusals}
 use Rattle.promises.specs.Laws.Sizes.{keeps-size}
@@ -36,11 +37,11 @@ use Rattle.outcomes.specs.Runs.{Event, calls, answers, Run, done, step}
 use Rattle.refinement.specs.Laws.Tags.{unused-free}
 use Rattle.refinement.specs.Laws.Reads.{top-frame, frame-small}
 use Rattle.refinement.specs.Laws.Refusals.{refusals-agree}
-use Rattle.refinement.specs.Laws.Slots.{first-step, copy-step, fetch-step, clear-step, load-step, get-step, view-step, same-step, about-step, totals-step}
+use Rattle.refinement.specs.Laws.Slots.{first-step, copy-step, fetch-step, clear-step, load-step, get-step, view-step, same-step, about-step, ask-step, totals-step}
 use Rattle.refinement.specs.Laws.Stack.{push-step, drop-step, hand-step}
 use Rattle.refinement.specs.Laws.Words.{put-step, pointer-step}
 use Rattle.refinement.specs.Laws.Grow.{declare-step, new-step, sub-step}
-use Rattle.refinement.specs.Laws.Allocate.{joined, chosen-page, allocated-represents}
+use Rattle.refinement.specs.Laws.Allocate.{joined, page-of-new, allocated-represents}
 use Rattle.refinement.specs.Laws.Report.{report-step}
 use Rattle.refinement.specs.Laws.Delete.{delete-step, delete-all-step}
 use Rattle.audited.specs.Laws.Audited.{audited}
@@ -75,7 +76,7 @@ deleted-names S rs = ap (λ l. clearedAt l (map (entryOf (regions S)) rs)) (reco
 
 module _ {L : Model} {sp : List ℕ} {ids : ℕ → List ℕ} {S : Store} (rep : Represents L sp ids S) where
   -- the slot then holds the pointer of the object made on page j
-  slot-after-is : Valid L → Sized S → {h : History} → Tells L sp h → (s i k j : ℕ) → noFrame L ≡ false → lacks (top L) s ≡ false
+  pub slot-after-is : Valid L → Sized S → {h : History} → Tells L sp h → (s i k j : ℕ) → noFrame L ≡ false → lacks (top L) s ≡ false
       → slotAfter h (allocated S s i k j) s ≡ 64 * j + pick (roomy S i (size S k)) (takenAt (pages S) j) 0 + 1
   unfolding allocated fillSlot putSlot slotAt
   slot-after-is v sh {h} t s i k j n m =
@@ -121,26 +122,28 @@ module _ {N : ℕ} {L : Model} {S : Store} {h : History} (k : Told N L S h) (a :
   unfolding born
   born-pages l n w x = same-pages refl refl refl (named-pages (rep .onRegions) (rep .onPages) u (unused (regions S)) n (unused-free (rep .onRegions) l .1))
 
-  allocate-told : (s r k j : ℕ) → refusal L (allocate s r k) ≡ 0 → a ≡ gives [] → Chosen S (entryOf (regions S) r) (size S k) j → After (allocate s r k) (allocated S s (entryOf (regions S) r) k j)
+  allocate-told : (s r k : ℕ) → refusal L (allocate s r k) ≡ 0 → a ≡ gives []
+      → let i = entryOf (regions S) r in After (allocate s r k) (allocated S s i k (pageFor S i (size S k)))
   unfolding checks reply accepted told allocated fillSlot withPage tagOf
-  allocate-told s r k j e b c =
+  allocate-told s r k e b =
       let i = entryOf (regions S) r in
+      let j = pageFor S i (size S k) in
       let x = 64 * j + pick (roomy S i (size S k)) (takenAt (pages S) j) 0 in
       let T = allocated S s i k j in
       let w = passed L (allocate s r k) e in
       let l = not-false (livesIn L r) (w .1 .1 .0) in
-      let f = chosen-page L (g .places) (g .onPage) S v sh rep r k j l c in
+      let f = page-of-new L (g .places) (g .onPage) S v sh rep r k l s e in
       let y : x / 64 ≡ j = omega (arith, f .2) in
       let n = add-one x in
       let z = slot-after-is rep v sh t s i k j (w .0) (w .1 .0) ∙ n in
-      let on = joined L (g .places) (g .onPage) S v sh rep r k j l in (
+      let on = joined L (g .places) (g .onPage) S v sh rep r k l in (
         b,
         g .places ++ (suc x ∷ []),
         on,
-        subst (λ o. Represents (accepted L (allocate s r k)) (g .places ++ (o ∷ [])) on T) n (allocated-represents L (g .places) (g .onPage) S v sh rep r k j l s e c),
+        subst (λ o. Represents (accepted L (allocate s r k)) (g .places ++ (o ∷ [])) on T) n (allocated-represents L (g .places) (g .onPage) S v sh rep r k l s e),
         subst⁻¹ (λ o. Tells (accepted L (allocate s r k)) (g .places ++ (suc x ∷ [])) (objectMade h r k o)) z (fill-told (object-told t r k x l (rep .onObjects .known)) s _),
         subst⁻¹ (λ o. TellsPages (objectMade h r k o) ((regions S) .names) (pages T)) z (subst (λ j. TellsPages (objectMade h r k (suc x)) ((regions S) .names) (withTaken (pages S) j (tagOf (regions S) r) (pick (roomy S i (size S k)) (takenAt (pages S) j) 0 + size S k))) y
-            (placed-pages (rep .onRegions) (rep .onPages) u r l k _ x (omega (arith, y, f .1, rep .onPages .most, sh .inPages .owners)) (omega (arith, y, f .1)) (rw y (f .0)))),
+            (placed-pages (rep .onRegions) (rep .onPages) u r l k _ x (omega (arith, y, f .1, rep .onPages .most, sh .inPages .owners)) (omega (arith, y, f .1)) (rw y (⊎-elim inl (λ z. inr (z .0)) (f .0))))),
       )
 
   accepted-told : (c : Call) → refusal L c ≡ 0 → Accepted c S a T → After c T
@@ -155,7 +158,7 @@ module _ {N : ℕ} {L : Model} {S : Store} {h : History} (k : Told N L S h) (a :
   accepted-told (push n) e q = stays (push n) (push-step L _ _ S v rep a T sh n e q) (push-told t n) (rw (q .1) (same-pages refl refl refl u))
   accepted-told dropFrame e q = stays dropFrame (drop-step L _ _ S v rep a T small q) (pop-told t v) (rw (q .1, popped-names S) (same-pages refl refl refl u))
   accepted-told (handBack s b) e q = stays (handBack s b) (hand-step L _ _ S v rep a T sh small s b e q) (fill-told (pop-told t v) b _) (rw (q .1, popped-names S) (same-pages refl refl refl u))
-  accepted-told (allocate s r k) e (b, (j, c, d)) = rw d (allocate-told s r k j e b c)
+  accepted-told (allocate s r k) e q = rw (q .1) (allocate-told s r k e (q .0))
   accepted-told (first s r) e q = stays (first s r) (first-step L _ _ S v rep a T sh s r e q) (fill-told t s _) (rw (q .1) u)
   accepted-told (copy s d) e q = stays (copy s d) (copy-step L _ _ S v rep a T sh s d e q) (fill-told t d _) (rw (q .1) u)
   accepted-told (fetch b s) e q = stays (fetch b s) (fetch-step L _ _ S v rep a T sh b s e q) (fill-told t s _) (rw (q .1) u)
@@ -178,18 +181,20 @@ module _ {N : ℕ} {L : Model} {S : Store} {h : History} (k : Told N L S h) (a :
       let m = removable-all L rs e in
       stays (deleteAll rs) (delete-all-step L _ _ S v rep a T rs (outside-bound L v (g .paged) (g .few)) e q) (remove-told t rs)
       (rw (q .1, deleted-names S rs) (ended-pages (rep .onRegions) (rep .onPages) u rs (m .live) (m .distinct)))
+  accepted-told (ask x) e q = stays (ask x) (ask-step L _ _ S v rep a T x e q) t (rw (q .1) u)
 
 -- ---- any call
+
+-- the store refuses just what the model does, by the same number
+pub agree : {N : ℕ} {L : Model} {S : Store} {h : History} → Told N L S h → (c : Call) → storeRefusal S c ≡ refusal L c
+agree {N} {L} k = refusals-agree (k .good .valid) (k .good .represents) (outside-bound L (k .good .valid) (k .good .paged) (k .good .few))
 
 pub told-step : {N : ℕ} {L : Model} {S : Store} {h : History} → Told N L S h → (e : Event) → Outcome (e .call) S (e .answer) (e .left)
     → (e .answer ≡ answer L (e .call)) × Told N (next L (e .call)) (e .left) (note e h)
 unfolding Outcome answer next note Refusals
-told-step {N} {L} {S} {h} k e o = subst⁻¹ (λ n. (e .answer ≡ answerBy (refusal L (e .call)) L (e .call)) × Told N (next L (e .call)) (e .left) (noteBy n e h)) (refusals (e .call) S (e .answer) (e .left) o .0 ∙ agree)
-    (go (refusal L (e .call)) refl (subst (λ n. Answered n (e .call) S (e .answer) (e .left)) agree o))
+told-step {N} {L} {S} {h} k e o = subst⁻¹ (λ n. (e .answer ≡ answerBy (refusal L (e .call)) L (e .call)) × Told N (next L (e .call)) (e .left) (noteBy n e h)) (refusals (e .call) S (e .answer) (e .left) o .0 ∙ agree k (e .call))
+    (go (refusal L (e .call)) refl (subst (λ n. Answered n (e .call) S (e .answer) (e .left)) (agree k (e .call)) o))
   where
-    agree : storeRefusal S (e .call) ≡ refusal L (e .call)
-    agree = refusals-agree (k .good .valid) (k .good .represents) (outside-bound L (k .good .valid) (k .good .paged) (k .good .few)) (e .call)
-
     whole : (n : ℕ) → refusal L (e .call) ≡ n → (sp : List ℕ) (ids : ℕ → List ℕ) → Represents (nextBy n L (e .call)) sp ids (e .left) → Tells (nextBy n L (e .call)) sp (noteBy n e h)
         → TellsPages (noteBy n e h) ((regions (e .left)) .names) (pages (e .left)) → Told N (nextBy n L (e .call)) (e .left) (noteBy n e h)
     whole n q sp ids r t u = record {

@@ -36,7 +36,7 @@ module _ {L : Model} {sp : List ℕ} {ids : ℕ → List ℕ} {h : History} (S :
   width-is : (i : ℕ) → i < length (L .frames) → getD (h .frames) i 0 ≡ length (getD (L .frames) i [])
   width-is i k = ap (λ l. getD l i 0) (t .frames) ∙ getD-map-in length (L .frames) i 0 [] k
 
-  pointer-leads : (q : ℕ) → Known L q → (eqb (spot sp q) 0 || leads h (spot sp q)) ≡ true
+  pub pointer-leads : (q : ℕ) → Known L q → (eqb (spot sp q) 0 || leads h (spot sp q)) ≡ true
   pointer-leads q k = by-known L q k (λ e. rw e) (λ l. or-right (eqb (spot sp q) 0) (leads h (spot sp q)) (leads-to t v onObjects q l))
 
   pub slots-lead : slotsLead h S ≡ true

@@ -109,8 +109,8 @@ begin-pages {L} S ra pa = record {
 
     go : (j : ℕ) → Owned L (regions S) (pages S) j
         → keep (λ q. not (eqb q 0)) (nameOf (regions S) (ownerAt (pages S) j) ∷ []) ≡ holding ((regions S) .names) (ownerAt (pages S) j)
-    go j (inl e) = rw (e, name-none (regions S))
-    go j (inr (r, l, e)) = rw (e, tag-name ra r l, ne-eqb r 0 (live-named ra r l), holding-tag ra r l)
+    go j (inl (z, e)) = rw (e, name-none (regions S))
+    go j (inr (l, e)) = let r = getD (L .holders) j 0 in rw (e, tag-name ra r l, ne-eqb r 0 (live-named ra r l), holding-tag ra r l)
 
 -- each page is free, or one live region holds it
 pub pages-held : {L : Model} {sp : List ℕ} {h : History} {g : Regions} {p : Pages} {words : ℕ} → RegionsAgree L sp g → PagesAgree L g p words → Tells L sp h → TellsPages h (g .names) p → pagesHeld h ≡ true
@@ -119,5 +119,5 @@ pages-held {L} {sp} {h} {g} {p} ra pa t u = each-every _ (h .pages) (λ j k. let
   where
     go : (j : ℕ) → Owned L g p j
         → (eqb (bit (eqb (ownerAt p j) 0) + length (holding (g .names) (ownerAt p j))) 1 && every (isLive h) (holding (g .names) (ownerAt p j))) ≡ true
-    go j (inl e) = rw e
-    go j (inr (r, l, e)) = rw (e, ne-eqb (tagOf g r) 0 (tag-some g r), holding-tag ra r l, live-is t r, l)
+    go j (inl (z, e)) = rw e
+    go j (inr (l, e)) = let r = getD (L .holders) j 0 in rw (e, ne-eqb (tagOf g r) 0 (tag-some g r), holding-tag ra r l, live-is t r, l)

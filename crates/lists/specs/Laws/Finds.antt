@@ -12,7 +12,7 @@ use borrow.Author.Tests.{eqb-true, ne-eqb, ltb-true, ltb-false, lt-ltb}
 use Rattle.lists.specs.Lists.{bit, pick, anyOf, every, keep, findOr, sumOf, countOf, times, All, joined}
 use Rattle.lists.specs.Laws.Tests.{neither, both, by-test, bit-zero, pick-same}
 use Rattle.lists.specs.Laws.All.{all-map, all-in}
-use Rattle.lists.specs.Laws.Sums.{sum-keep, sum-map, sum-pick, sum-plus, sum-swap, sum-zero}
+use Rattle.lists.specs.Laws.Sums.{sum-keep, sum-pick, sum-swap, sum-zero}
 
 module _ {A : Type 0} where
   pub any-append : (f : A → Bool) (l r : List A) → anyOf f (l ++ r) ≡ (anyOf f l || anyOf f r)
@@ -171,6 +171,11 @@ module _ {A : Type 0} where
   find-none f d [] e = refl
   find-none f d (x ∷ xs) e = let q = neither (f x) (anyOf f xs) e in rw (q .0, find-none f d xs (q .1))
 
+  -- two tests that agree find the same
+  pub find-same : (f g : A → Bool) (d : A) (l : List A) → All (λ x. f x ≡ g x) l → findOr f d l ≡ findOr g d l
+  find-same f g d [] h = refl
+  find-same f g d (x ∷ xs) h = rw (h .0, find-same f g d xs (h .1))
+
   -- some element has a value that is not 0 where their sum is not 0
   pub any-sum : (f : A → ℕ) (l : List A) → anyOf (λ x. ltb 0 (f x)) l ≡ ltb 0 (sumOf f l)
   any-sum f [] = refl
@@ -200,27 +205,6 @@ module _ {A : Type 0} where
           → pick b (f x) 0 + sumOf (λ x. pick (t x) (f x) 0) xs ≡ f (pick b x (findOr t d xs))
       go true e h = omega (arith, sum-none t f xs (all-map (λ x z. bit-zero (t x) z) xs (sum-zero (λ x. bit (t x)) xs (omega arith))))
       go false e h = omega (arith, h (omega arith))
-
-  -- those that are thrown out, and those that are kept
-  pub sum-parted : (t : A → Bool) (f : A → ℕ) (l : List A) → sumOf f (keep (λ x. not (t x)) l) + sumOf (λ x. pick (t x) (f x) 0) l ≡ sumOf f l
-  sum-parted t f l = rw (sum-keep f (λ x. not (t x)) l) (sym (sum-plus _ _ l) ∙ ap (λ f. sumOf f l) (fun-ext (λ x. go (t x) (f x))))
-    where
-      go : (b : Bool) (n : ℕ) → pick (not b) n 0 + pick b n 0 ≡ n
-      go true n = omega arith
-      go false n = omega arith
-
-  -- it goes, or changes by h
-  pub sum-without : (t : A → Bool) (f : A → ℕ) (d : A) (l : List A) → countOf t l ≡ 1 → sumOf f (keep (λ x. not (t x)) l) + f (findOr t d l) ≡ sumOf f l
-  sum-without t f d l e = rw (sym (sum-one t f d l e)) (sum-parted t f l)
-
-  pub sum-instead : (t : A → Bool) (h : A → A) (f : A → ℕ) (d : A) (l : List A) → countOf t l ≡ 1
-      → sumOf f (map (λ x. pick (t x) (h x) x) l) + f (findOr t d l) ≡ sumOf f l + f (h (findOr t d l))
-  sum-instead t h f d l e = rw (sum-map f (λ x. pick (t x) (h x) x) l, sym (sum-one t f d l e), sym (sum-one t (λ x. f (h x)) d l e))
-      (sym (sum-plus _ _ l) ∙ ap (λ f. sumOf f l) (fun-ext (λ x. go (t x) x)) ∙ sum-plus _ _ l)
-    where
-      go : (b : Bool) (x : A) → f (pick b (h x) x) + pick b (f x) 0 ≡ f x + pick b (f (h x)) 0
-      go true x = omega arith
-      go false x = omega arith
 
 module _ {A B : Type 0} where
   pub any-map : (f : B → Bool) (g : A → B) (l : List A) → anyOf f (map g l) ≡ anyOf (λ x. f (g x)) l

@@ -16,7 +16,7 @@ use Rattle.lists.specs.Laws.All.{all-map, all-take, all₂-map}
 use Rattle.lists.specs.Laws.Sums.{sum-set, sum-append, sum-split, sum-plus, sum-pick, sum-same, sum₂-set, sum₂-same, sum₂-none}
 use Rattle.lists.specs.Laws.Kept.{sum-members}
 use Rattle.model.specs.Model.{Model, Object, Region, noObject, object, live, homeOf, marks, livesIn, homeIn, topPlace, top, beneath, slot, inSlot, into, freeInto, fromObject, inWords, inFrames, wordPointers, outside, stored, allowed, declare}
-use Rattle.model.specs.Calls.{accepted, withFrames, fillSlot, popFrame, replaced, withWord, writeWord, addRegion, addObject, removeRegions, others, size, null}
+use Rattle.model.specs.Calls.{accepted, withFrames, fillSlot, popFrame, replaced, withWord, writeWord, addRegion, addObject, pageFor, wordFor, removeRegions, others, size, null}
 use Rattle.model.specs.Valid.{Valid, ValidObject, known, fine}
 use Rattle.model.specs.Moves.{between, uncounted, newly, weighs, fromRegion, fromRegions}
 use Rattle.model.specs.Laws.Slots.{in-list, object-valid, slot-lives}
@@ -163,7 +163,7 @@ module _ {lives lives₂ : ℕ → Bool} {parent parent₂ home home₂ : ℕ �
 pub region-stored : (L : Model) (r : ℕ) → Valid L → (q l : ℕ) → stored (addRegion L q l) r ≡ stored L r
 unfolding stored addRegion
 region-stored L r v q l =
-    let g : Region = record { name = L .given + 1; parent = q; level = l; pages = 0; room = 0; oldest = 0 } in
+    let g : Region = record { name = L .given + 1; parent = q; level = l; newest = 0; room = 0; oldest = 0 } in
     ap (λ x. x + inFrames (homeIn L) r (take (L .counted) (L .frames))) (inWords-moved (region-extends L v g refl) refl (L .kinds) (L .objects) r (v .objects))
 
 words-append : (lives : ℕ → Bool) (home : ℕ → ℕ) (ks : List (List ℕ)) (os : List Object) (o : Object) (r : ℕ) → inWords lives home ks (os ++ (o ∷ [])) r ≡ inWords lives home ks os r + fromObject lives home ks r o
@@ -171,9 +171,9 @@ unfolding inWords
 words-append lives home ks os o r = omega (arith, sum-append (fromObject lives home ks r) os (o ∷ []))
 
 -- an object whose words are all 0 leads nowhere
-from-new : (lives : ℕ → Bool) (home : ℕ → ℕ) (ks : List (List ℕ)) (r q k n : ℕ) → home 0 ≡ 0 → 0 < r → fromObject lives home ks r (record { home = q; kind = k; words = replicate n 0 }) ≡ 0
+from-new : (lives : ℕ → Bool) (home : ℕ → ℕ) (ks : List (List ℕ)) (r q k j w n : ℕ) → home 0 ≡ 0 → 0 < r → fromObject lives home ks r (record { home = q; kind = k; page = j; word = w; words = replicate n 0 }) ≡ 0
 unfolding fromObject
-from-new lives home ks r q k n z h = rw (sum₂-none (freeInto home r) (marks ks k) n 0 none) (pick-same (lives q && not (eqb q r)) 0)
+from-new lives home ks r q k j w n z h = rw (sum₂-none (freeInto home r) (marks ks k) n 0 none) (pick-same (lives q && not (eqb q r)) 0)
   where
     none : (k : ℕ) → freeInto home r k 0 ≡ 0
     none k = rw (z, ne-eqb 0 r (λ e. omega arith)) (pick-same (eqb k 1) 0)
@@ -182,13 +182,15 @@ pub object-stored : (L : Model) (r : ℕ) → Valid L → 0 < r → (q k : ℕ) 
 unfolding stored addObject change
 object-stored L r v h q k =
     let n = length (marks (L .kinds) k) in
-    let o : Object = record { home = q; kind = k; words = replicate n 0 } in
-    let m = object-extends L v q (size L k) (length (L .objects) + 1) o in
+    let j = pageFor L q (size L k) in
+    let w = wordFor L q (size L k) in
+    let o : Object = record { home = q; kind = k; page = j; word = w; words = replicate n 0 } in
+    let m = object-extends L v q (size L k) (length (L .objects) + 1) j o in
     rw (
       words-append,
       inFrames-moved m refl (take (L .counted) (L .frames)) r (all-take _ (L .counted) (L .frames) (v .frames .slots)),
       inWords-moved m refl (L .kinds) (L .objects) r (v .objects),
-      from-new _ (homeOf (L .objects ++ (o ∷ []))) (L .kinds) r q k n refl h,
+      from-new _ (homeOf (L .objects ++ (o ∷ []))) (L .kinds) r q k j w n refl h,
     ) (omega arith)
 
 -- ---- delete: the words of the members' objects leave, and the frames newly counted enter

@@ -15,7 +15,7 @@ use Rattle.lists.specs.Laws.All.{all-map, all-append, all-change, all-both, all
 use Rattle.lists.specs.Laws.Finds.{any-false}
 use Rattle.model.specs.Model.{Model, Object, Region, called, live, region, homeOf, parentOf, marks, livesIn, homeIn, parentIn, above, rule, allowed}
 use Rattle.model.specs.Model.{declare, newRegion, subregion, allocate}
-use Rattle.model.specs.Calls.{checks, refusal, accepted, addRegion, addObject, grown, size}
+use Rattle.model.specs.Calls.{checks, refusal, accepted, addRegion, addObject, pageFor, wordFor, grown, size}
 use Rattle.model.specs.Valid.{Valid, ValidFrames, ValidObject, ValidParent, OwnOldest, known, fine, levelOf}
 use Rattle.model.specs.Laws.Passed.{passed}
 use Rattle.model.specs.Laws.Climb.{climb-same, parent-lives}
@@ -126,7 +126,7 @@ add-region-valid : (L : Model) → Valid L → (r l : ℕ) → (eqb r 0 || lives
 unfolding addRegion
 add-region-valid L v r l a e d few last =
     let gs = L .regions in
-    let g : Region = record { name = L .given + 1; parent = r; level = l; pages = 0; room = 0; oldest = 0 } in
+    let g : Region = record { name = L .given + 1; parent = r; level = l; newest = 0; room = 0; oldest = 0 } in
     let m = region-extends L v g refl in
     record {
       kinds = v .kinds;
@@ -169,47 +169,47 @@ sub-valid L v r e =
 -- ---- allocate
 
 -- region r grows by an object, and the others stay
-unfoldable pub change : ℕ → ℕ → ℕ → Region → Region
-change r n i g = pick (called r g) (grown n i g) g
+unfoldable pub change : ℕ → ℕ → ℕ → ℕ → Region → Region
+change r n i j g = pick (called r g) (grown n i j g) g
 
 -- the change keeps what growing keeps
-changed : {X : Type 0} (field : Region → X) (r n i : ℕ) (g : Region) → field (grown n i g) ≡ field g → field (change r n i g) ≡ field g
+changed : {X : Type 0} (field : Region → X) (r n i j : ℕ) (g : Region) → field (grown n i j g) ≡ field g → field (change r n i j g) ≡ field g
 unfolding change
-changed {X} field r n i g e = go (called r g)
+changed {X} field r n i j g e = go (called r g)
   where
-    go : (b : Bool) → field (pick b (grown n i g) g) ≡ field g
+    go : (b : Bool) → field (pick b (grown n i j g) g) ≡ field g
     go true = e
     go false = refl
 
-module _ (r n i : ℕ) where
-  pub name-kept : (g : Region) → (change r n i g) .name ≡ g .name
+module _ (r n i j : ℕ) where
+  pub name-kept : (g : Region) → (change r n i j g) .name ≡ g .name
   unfolding grown
-  name-kept g = changed (λ x. x .name) r n i g refl
+  name-kept g = changed (λ x. x .name) r n i j g refl
 
-  parent-kept : (g : Region) → (change r n i g) .parent ≡ g .parent
+  parent-kept : (g : Region) → (change r n i j g) .parent ≡ g .parent
   unfolding grown
-  parent-kept g = changed (λ x. x .parent) r n i g refl
+  parent-kept g = changed (λ x. x .parent) r n i j g refl
 
-  level-kept : (g : Region) → (change r n i g) .level ≡ g .level
+  level-kept : (g : Region) → (change r n i j g) .level ≡ g .level
   unfolding grown
-  level-kept g = changed (λ x. x .level) r n i g refl
+  level-kept g = changed (λ x. x .level) r n i j g refl
 
-pub object-extends : (L : Model) → Valid L → (r n i : ℕ) (o : Object)
-    → Extends (livesIn L) (live (map (change r n i) (L .regions))) (parentIn L) (parentOf (map (change r n i) (L .regions)))
+pub object-extends : (L : Model) → Valid L → (r n i j : ℕ) (o : Object)
+    → Extends (livesIn L) (live (map (change r n i j) (L .regions))) (parentIn L) (parentOf (map (change r n i j) (L .regions)))
     (homeIn L) (homeOf (L .objects ++ (o ∷ []))) (L .given) (L .given)
-object-extends L v r n i o = record {
-  back = λ q h l. rw (live-map (change r n i) (name-kept r n i) (L .regions) q) at l;
-  forth = λ q l. rw (live-map (change r n i) (name-kept r n i) (L .regions) q) l;
+object-extends L v r n i j o = record {
+  back = λ q h l. rw (live-map (change r n i j) (name-kept r n i j) (L .regions) q) at l;
+  forth = λ q l. rw (live-map (change r n i j) (name-kept r n i j) (L .regions) q) l;
   closed = λ q l. parent-lives L v q l;
-  parents = λ q l. find-map (change r n i) (name-kept r n i) (λ x. x .parent) (parent-kept r n i) (L .regions) q;
+  parents = λ q l. find-map (change r n i j) (name-kept r n i j) (λ x. x .parent) (parent-kept r n i j) (L .regions) q;
   homes = λ p l. home-append (L .objects) o p (in-list L v p l);
   grows = omega arith;
 }
 
-oldest-moved : (L : Model) (r n : ℕ) (o : Object) (g : Region) → o .home ≡ r → OwnOldest (homeIn L) g → 1 ≤ g .name
-    → OwnOldest (homeOf (L .objects ++ (o ∷ []))) (change r n (length (L .objects) + 1) g)
+oldest-moved : (L : Model) (r n j : ℕ) (o : Object) (g : Region) → o .home ≡ r → OwnOldest (homeIn L) g → 1 ≤ g .name
+    → OwnOldest (homeOf (L .objects ++ (o ∷ []))) (change r n (length (L .objects) + 1) j g)
 unfolding change grown
-oldest-moved L r n o g h own z = go (called r g) refl (eqb (g .oldest) 0) refl own
+oldest-moved L r n j o g h own z = go (called r g) refl (eqb (g .oldest) 0) refl own
   where
     os : List Object
     os = L .objects
@@ -222,7 +222,7 @@ oldest-moved L r n o g h own z = go (called r g) refl (eqb (g .oldest) 0) refl o
         go false q = absurd (omega (arith, eqb-true (homeOf os (g .oldest)) (g .name) e, home-out os (g .oldest) (leb-false (g .oldest) (length os) q)))
 
     go : (b : Bool) → called r g ≡ b → (c : Bool) → eqb (g .oldest) 0 ≡ c → (c || eqb (homeOf os (g .oldest)) (g .name)) ≡ true
-        → OwnOldest (homeOf (os ++ (o ∷ []))) (pick b (grown n (length os + 1) g) g)
+        → OwnOldest (homeOf (os ++ (o ∷ []))) (pick b (grown n (length os + 1) j g) g)
     go true q true p e = or-right (eqb (pick (eqb (g .oldest) 0) (length os + 1) (g .oldest)) 0) _ (rw p (rw (home-new os o, h) (eq-eqb r (g .name) (sym (eqb-true (g .name) r q)))))
     go true q false p e = or-right (eqb (pick (eqb (g .oldest) 0) (length os + 1) (g .oldest)) 0) _ (rw p (old e))
     go false q true p e = rw p
@@ -233,26 +233,27 @@ unfolding addObject change allowed
 add-object-valid L v r k l h =
     let n = size L k in
     let i = length (L .objects) + 1 in
+    let j = pageFor L r n in
     let gs = L .regions in
-    let o : Object = record { home = r; kind = k; words = replicate (length (marks (L .kinds) k)) 0 } in
-    let m = object-extends L v r n i o in
+    let o : Object = record { home = r; kind = k; page = j; word = wordFor L r n; words = replicate (length (marks (L .kinds) k)) 0 } in
+    let m = object-extends L v r n i j o in
     record {
       kinds = v .kinds;
       names = record {
         many = simp length-map (v .names .many);
-        distinct = distinct-map (change r n i) (name-kept r n i) gs (v .names .distinct);
-        named = all-change (λ g. 1 ≤ g .name) _ (change r n i) (λ g q. rw (name-kept r n i g) q) gs (v .names .named);
-        namesGiven = all-change (λ g. g .name ≤ L .given) _ (change r n i) (λ g q. rw (name-kept r n i g) q) gs (v .names .namesGiven);
+        distinct = distinct-map (change r n i j) (name-kept r n i j) gs (v .names .distinct);
+        named = all-change (λ g. 1 ≤ g .name) _ (change r n i j) (λ g q. rw (name-kept r n i j g) q) gs (v .names .named);
+        namesGiven = all-change (λ g. g .name ≤ L .given) _ (change r n i j) (λ g q. rw (name-kept r n i j g) q) gs (v .names .namesGiven);
         lastGiven = v .names .lastGiven;
         permanent = m .forth 1 (v .names .permanent);
         root = m .parents 1 (v .names .permanent) ∙ v .names .root;
       };
-      parents = all-change (ValidParent gs) _ (change r n i) (λ g u. record {
-        parent = rw (parent-kept r n i g, live-map (change r n i) (name-kept r n i) gs (g .parent)) (u .parent);
-        level = rw (parent-kept r n i g, level-kept r n i g, level-map (change r n i) (name-kept r n i) (level-kept r n i) gs (g .parent)) (u .level);
-        deep = rw (level-kept r n i g) (u .deep);
+      parents = all-change (ValidParent gs) _ (change r n i j) (λ g u. record {
+        parent = rw (parent-kept r n i j g, live-map (change r n i j) (name-kept r n i j) gs (g .parent)) (u .parent);
+        level = rw (parent-kept r n i j g, level-kept r n i j g, level-map (change r n i j) (name-kept r n i j) (level-kept r n i j) gs (g .parent)) (u .level);
+        deep = rw (level-kept r n i j g) (u .deep);
       }) gs (v .parents);
-      oldest = all-change (λ g. OwnOldest (homeIn L) g × (1 ≤ g .name)) _ (change r n i) (λ g q. oldest-moved L r n o g refl (q .0) (q .1)) gs
+      oldest = all-change (λ g. OwnOldest (homeIn L) g × (1 ≤ g .name)) _ (change r n i j) (λ g q. oldest-moved L r n j o g refl (q .0) (q .1)) gs
           (all-both _ _ gs (v .oldest) (v .names .named));
       objects = all-append _ (L .objects) (o ∷ []) (all-map (object-moved m (L .kinds)) (L .objects) (v .objects)) (
         record {
@@ -279,5 +280,6 @@ unfolding accepted checks addObject change
 allocate-valid L v s r k e =
     let l = not-false (livesIn L r) (passed L (allocate s r k) e .1 .1 .0) in
     let i = length (L .objects) + 1 in
+    let j = pageFor L r (size L k) in
     fill-valid (addObject L r k) (made-valid L v s r k e) s i
-    (or-right (eqb i 0) _ (rw (home-new, live-map (change r (size L k) i) (name-kept r (size L k) i) (L .regions) r) l))
+    (or-right (eqb i 0) _ (rw (home-new, live-map (change r (size L k) i j) (name-kept r (size L k) i j) (L .regions) r) l))

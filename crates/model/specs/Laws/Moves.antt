@@ -9,7 +9,7 @@ use lib.Dec.{eqb}
 use lib.ListN.{length, getD, replicate}
 use borrow.Author.Tests.{eqb-true, leb-false, not-false}
 use Rattle.lists.specs.Laws.Tests.{pick-same}
-use Rattle.model.specs.Model.{Model, Call, declare, newRegion, subregion, push, dropFrame, handBack, allocate, first, copy, fetch, clear, load, setPointer, put, get, view, same, about, report, totals, audit, delete, deleteAll}
+use Rattle.model.specs.Model.{Model, Call, declare, newRegion, subregion, push, dropFrame, handBack, allocate, first, copy, fetch, clear, load, setPointer, put, get, view, same, about, report, totals, audit, delete, deleteAll, ask}
 use Rattle.model.specs.Model.{region, livesIn, beneath, slot, inSlot, markAt, stored}
 use Rattle.model.specs.Calls.{checks, refusal, accepted, next, nextBy, popFrame, addObject, removeRegions}
 use Rattle.model.specs.Valid.{Valid}
@@ -68,6 +68,7 @@ module _ (L : Model) (r : ℕ) (v : Valid L) where
   accepted-stored audit e l = refl
   accepted-stored (delete q) e l = remove-stored L v (q ∷ []) (removable-one L q e) r (not-removed (L .regions) (q ∷ []) r l)
   accepted-stored (deleteAll qs) e l = remove-stored L v qs (removable-all L qs e) r (not-removed (L .regions) qs r l)
+  accepted-stored (ask q) e l = refl
 
   pub next-stored : (c : Call) → livesIn (next L c) r ≡ true → stored (next L c) r + (movesBy (refusal L c) L c r) .1 ≡ stored L r + (movesBy (refusal L c) L c r) .0
   unfolding next

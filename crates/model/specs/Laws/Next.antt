@@ -4,7 +4,7 @@ use mathlib.Core.Path.{_≡_, refl}
 use mathlib.Core.List.{List, [], _∷_}
 use Prim.Native.Nat.{ℕ, zero, suc}
 use native.Mathlib.Omega.{arith}
-use Rattle.model.specs.Model.{Model, Call, declare, newRegion, subregion, push, dropFrame, handBack, allocate, first, copy, fetch, clear, load, setPointer, put, get, view, same, about, report, totals, audit, delete, deleteAll}
+use Rattle.model.specs.Model.{Model, Call, declare, newRegion, subregion, push, dropFrame, handBack, allocate, first, copy, fetch, clear, load, setPointer, put, get, view, same, about, report, totals, audit, delete, deleteAll, ask}
 use Rattle.model.specs.Calls.{refusal, accepted, next, nextBy, after, fresh}
 use Rattle.model.specs.Valid.{Valid}
 use Rattle.model.specs.Laws.Slots.{push-valid, pop-valid, hand-valid, clear-valid, copy-valid, fetch-valid, load-valid, first-valid, set-valid, put-valid}
@@ -36,6 +36,7 @@ accepted-valid L totals v e = v
 accepted-valid L audit v e = v
 accepted-valid L (delete r) v e = delete-valid L v r e
 accepted-valid L (deleteAll rs) v e = delete-all-valid L v rs e
+accepted-valid L (ask q) v e = v
 
 pub next-valid : (L : Model) (c : Call) → Valid L → Valid (next L c)
 unfolding next

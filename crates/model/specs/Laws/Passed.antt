@@ -9,8 +9,8 @@ use lib.Dec.{eqb, ltb}
 use borrow.Author.Tests.{ltb-true}
 use Rattle.lists.specs.Lists.{pick, every, All}
 use Rattle.lists.specs.Laws.Tests.{both}
-use Rattle.model.specs.Model.{Model, Call, declare, newRegion, subregion, push, dropFrame, handBack, allocate, first, copy, fetch, clear, load, setPointer, put, get, view, same, about, report, totals, audit, delete, deleteAll}
-use Rattle.model.specs.Calls.{checks, refusal, reason, dead, nameTests}
+use Rattle.model.specs.Model.{Model, Call, declare, newRegion, subregion, push, dropFrame, handBack, allocate, first, copy, fetch, clear, load, setPointer, put, get, view, same, about, report, totals, audit, delete, deleteAll, Query, locate, ask}
+use Rattle.model.specs.Calls.{checks, queryChecks, refusal, reason, dead, nameTests}
 
 abbrev pub positive : Bool × ℕ → Bool
 positive t = ltb 0 (t .1)
@@ -59,6 +59,10 @@ unfolding nameTests
 names-go gone [] ts h = refl
 names-go gone (r ∷ rs) ts h = rw (h .0 .0, h .0 .1) (names-go gone rs ts (h .1))
 
+query-numbers : (L : Model) (q : Query) → every positive (queryChecks L q) ≡ true
+unfolding queryChecks
+query-numbers L (locate s) = refl
+
 numbers : (L : Model) (c : Call) → every positive (checks L c) ≡ true
 unfolding checks
 numbers L (declare ms) = refl
@@ -84,6 +88,7 @@ numbers L totals = refl
 numbers L audit = refl
 numbers L (delete r) = refl
 numbers L (deleteAll rs) = names-numbers (ltb 0) refl refl (dead L) rs _ refl
+numbers L (ask q) = query-numbers L q
 
 -- in the tests' order: t .0, t .1 .0, t .1 .1 .0, .. of `passed L c e`
 pub passed : (L : Model) (c : Call) → refusal L c ≡ 0 → All (λ t. t .0 ≡ false) (checks L c)

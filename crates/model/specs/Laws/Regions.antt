@@ -10,12 +10,10 @@ use lib.Dec.{eqb, leb}
 use lib.ListN.{length, getD, set, List·getD-append, List·getD-eq-default}
 use lib.Seq.{getD-append-seam}
 use borrow.Author.Tests.{eqb-true, eq-eqb, ne-eqb, ltb-true, ltb-false, leb-true, leb-false}
-use Rattle.lists.specs.Lists.{bit, pick, keep, sumOf, countOf, All, times, among}
+use Rattle.lists.specs.Lists.{bit, pick, keep, countOf, All, among}
 use Rattle.lists.specs.Laws.Tests.{by-test, eqb-sym}
 use Rattle.lists.specs.Laws.All.{all-map, all-both}
-use Rattle.lists.specs.Laws.Sums.{sum-same}
-use Rattle.lists.specs.Laws.Finds.{any-append, find-append, find-passes, all-find, any-keep, any-thrown, find-keep, any-false, false-any, any-count, any-fewer, sum-one, sum-parted}
-use Rattle.lists.specs.Laws.Kept.{sum-members}
+use Rattle.lists.specs.Laws.Finds.{any-append, find-append, find-passes, all-find, any-keep, any-thrown, find-keep, any-false, false-any, any-count, any-fewer}
 use Rattle.model.specs.Model.{Object, Region, noObject, noRegion, called, live, region, homeOf, object}
 use Rattle.model.specs.Calls.{replaced, withWord, others}
 use Rattle.model.specs.Valid.{Distinct, levelOf}
@@ -137,12 +135,6 @@ module _ (gs : List Region) (rs : List ℕ) where
 
   pub lived-before : (q : ℕ) → live (others gs rs) q ≡ true → live gs q ≡ true
   lived-before q l = sym (live-others q (not-removed q l)) ∙ l
-
-  -- what is added up over all regions: over those that are left, and over the members, which live and are named once
-  pub sum-others : (f : Region → ℕ) → Distinct gs → ((q : ℕ) → times q rs ≤ 1) → All (λ r. live gs r ≡ true) rs → sumOf f (others gs rs) + sumOf (λ r. f (region gs r)) rs ≡ sumOf f gs
-  sum-others f d once l =
-      let found = sum-same _ _ rs (all-map (λ r k. sum-one (called r) f noRegion gs (distinct-one gs r d k)) rs l) in
-      ap (λ n. sumOf f (others gs rs) + n) (sym found ∙ sum-members (λ g. g .name) f gs rs once) ∙ sum-parted (λ g. among (g .name) rs) f gs
 
 pub distinct-keep : (f : Region → Bool) (gs : List Region) → Distinct gs → Distinct (keep f gs)
 distinct-keep f [] d = tt

@@ -3,7 +3,7 @@
 use mathlib.Core.Path.{_≡_, refl, sym, subst⁻¹}
 use mathlib.Core.Bool.{Bool, true, false, not, _||_, true≢false}
 use mathlib.Core.List.{List, [], _∷_, map}
-use Prim.Native.Nat.{ℕ, zero, suc, _+_, _-_, _*_, _≤_, _<_, min}
+use Prim.Native.Nat.{ℕ, zero, suc, _+_, _-_, _*_, _/_, _%_, _≤_, _<_, min}
 use native.Mathlib.Omega.{arith}
 use lib.Dec.{eqb, ltb, leb}
 use lib.ListN.{length, replicate}
@@ -14,7 +14,7 @@ use Rattle.lists.specs.Laws.All.{all-map, all-set, all-replicate}
 use Rattle.lists.specs.Laws.Finds.{any-false}
 use Rattle.lists.specs.Laws.Sums.{sum-most}
 use Rattle.lists.specs.Laws.Kept.{all-each}
-use Rattle.model.specs.Model.{Answer, Call, declare, newRegion, subregion, push, dropFrame, handBack, allocate, first, copy, fetch, clear, load, setPointer, put, get, view, same, about, report, totals, audit, delete, deleteAll, gives}
+use Rattle.model.specs.Model.{Answer, Call, declare, newRegion, subregion, push, dropFrame, handBack, allocate, first, copy, fetch, clear, load, setPointer, put, get, view, same, about, report, totals, audit, delete, deleteAll, Query, locate, ask, gives}
 use Rattle.model.specs.Calls.{wrongNames}
 use Rattle.frames.specs.declared.Frames.{Frames}
 use Rattle.frames.specs.Frames.{topFrame}
@@ -23,15 +23,16 @@ use Rattle.kinds.specs.Kinds.{kindCount, sizeOf, wrongMarks}
 use Rattle.regions.specs.declared.Regions.{Regions}
 use Rattle.regions.specs.Regions.{entryOf, tagOf, isLive, newestAt, oldestAt, levelAt}
 use Rattle.pages.specs.declared.Pages.{Pages}
-use Rattle.pages.specs.Pages.{pageCount, isFree, takenAt, pagesOf}
+use Rattle.pages.specs.Pages.{pageCount, isFree, takenAt, pageOf, wordOf, pagesOf}
 use Rattle.outcomes.specs.Store.{Store, frames, kinds, regions, pages, slot, size, roomy, roomyIn}
 use Rattle.outcomes.specs.Sound.{sound}
 use Rattle.outcomes.specs.Shape.{FramesBounded, KindsBounded, RegionsBounded, PagesBounded, Bounded, Bits32}
-use Rattle.outcomes.specs.Outcome.{Outcome, Accepted, Answered, Chosen, refusal, checks, dead, namesOut, withFrames, withKinds, withRegions, withPages, withHeap, fillSlot, writeWord, recounted, pointed, popFrame, allocated, outgoing, newlyCounted, deleted}
+use Rattle.outcomes.specs.Outcome.{Outcome, Accepted, Answered, queryReply, refusal, checks, dead, namesOut, withFrames, withKinds, withRegions, withPages, withHeap, fillSlot, writeWord, recounted, pointed, popFrame, allocated, outgoing, newlyCounted, deleted}
 use Rattle.promises.specs.Promises.{Sent, KeepsShape}
 use Rattle.promises.specs.Laws.Sizes.{keeps-size}
 use Rattle.promises.specs.Laws.Passed.{passed}
 use Rattle.outcomes.specs.Laws.Bounded.{below-at, all-sets, pick-below, slot-below, put-slot, push-frame, pop-frame, raise-mark, with-kind, with-region, without-regions, with-page, recount-bounded, with-taken, free-pages}
+use Rattle.outcomes.specs.Laws.PageFor.{NewestOrFree, newest-or-free}
 use Rattle.outcomes.specs.Laws.Values.{size-most, outside-below, word-below, kind-below, live-below, subregions-below, pages-below, name-below, count-below, oldest-below}
 
 zeros : Bits32 (gives [] .values)
@@ -125,7 +126,7 @@ newest-below : (g : Regions) → RegionsBounded g → (i : ℕ) → newestAt g i
 unfolding newestAt
 newest-below g h i = below-at 65536 (g .newest) i (omega arith) (h .newest)
 
--- an object on the page chosen: where it starts, and that page, fit their types
+-- an object on the page that it goes to: where it starts, and that page, fit their types
 roomy-fits : (S : Store) (i n : ℕ) → roomy S i n ≡ true → takenAt (pages S) (newestAt (regions S) i - 1) + n ≤ 64
 unfolding roomy roomyIn takenAt
 roomy-fits S i n e = go (eqb (newestAt (regions S) i) 0) (leb 65 (takenAt (pages S) (newestAt (regions S) i - 1) + n)) refl e
@@ -139,7 +140,7 @@ free-below : (S : Store) (j : ℕ) → isFree (pages S) j ≡ true → j < 256
 unfolding isFree pageCount
 free-below S j e = omega (arith, ltb-true j (min ((pages S) .made) 256) (both _ _ e .0))
 
-place-fits : (S : Store) (i n j : ℕ) → Bounded S → n ≤ 17 → Chosen S i n j → (j + 1 < 65536) × (pick (roomy S i n) (takenAt (pages S) j) 0 + n ≤ 64)
+place-fits : (S : Store) (i n j : ℕ) → Bounded S → n ≤ 17 → NewestOrFree S i n j → (j + 1 < 65536) × (pick (roomy S i n) (takenAt (pages S) j) 0 + n ≤ 64)
 place-fits S i n j h b c = go (roomy S i n) refl c
   where
     go : (r : Bool) → roomy S i n ≡ r → pick r (eqb (newestAt (regions S) i) (j + 1)) (isFree (pages S) j) ≡ true → (j + 1 < 65536) × (pick r (takenAt (pages S) j) 0 + n ≤ 64)
@@ -149,7 +150,7 @@ place-fits S i n j h b c = go (roomy S i n) refl c
         (omega (arith, e, newest-below (regions S) (h .inRegions) i), rw d at (roomy-fits S i n q))
     go false q c = (omega (arith, free-below S j c), omega arith)
 
-allocated-bounded : (S : Store) (s i k j : ℕ) → Bounded S → i < 64 → k ≤ 16 → Chosen S i (size S k) j → Bounded (allocated S s i k j)
+allocated-bounded : (S : Store) (s i k j : ℕ) → Bounded S → i < 64 → k ≤ 16 → NewestOrFree S i (size S k) j → Bounded (allocated S s i k j)
 unfolding allocated
 allocated-bounded S s i k j h b m c =
     let f = place-fits S i (size S k) j h (size-below S k) c in
@@ -169,6 +170,13 @@ both-of a b T U q h k = (subst⁻¹ Bounded (q .1) h, subst⁻¹ (λ x. Bits32 (
 bit-below : (b : Bool) → bit b < 4294967296
 bit-below true = omega arith
 bit-below false = omega arith
+
+query-below : (S : Store) → Bounded S → (q : Query) → Bits32 ((queryReply S q) .values)
+unfolding queryReply pageOf wordOf
+query-below S h (locate s) =
+    let v = slot S s in
+    let b = slot-small S h s in
+    four-small _ _ 0 0 (pick-below (eqb v 0) 256 ((v - 1) / 64) 4294967296 (omega arith) (omega arith)) (pick-below (eqb v 0) 0 ((v - 1) % 64) 4294967296 (omega arith) (omega arith)) (omega arith) (omega arith)
 
 accepted-keeps : (c : Call) (S : Store) (a : Answer) (T : Store) → Sent c → Bounded S → refusal S c ≡ 0 → Accepted c S a T → Bounded T × Bits32 (a .values)
 unfolding Accepted checks namesOut wrongMarks wrongNames
@@ -203,7 +211,7 @@ accepted-keeps (allocate s r k) S a T x h e q =
     let t = passed S (allocate s r k) e in
     let i = entry-below S r (t .1 .1 .1 .0) in
     let m = kind-most S k (neither (eqb k 0) (ltb (kindCount (kinds S)) k) (t .1 .1 .1 .1 .0) .1) in
-    both-of a _ T _ (q .0, q .1 .2) (allocated-bounded S s (entryOf (regions S) r) k (q .1 .0) h i m (q .1 .1)) zeros
+    both-of a _ T _ q (allocated-bounded S s (entryOf (regions S) r) k _ h i m (newest-or-free S (entryOf (regions S) r) (size S k) (t .1 .1 .1 .1 .1 .0))) zeros
 accepted-keeps (first s r) S a T x h e q = both-of a _ T _ q (filled S h s _ (oldest-below (regions S) (h .inRegions) _)) zeros
 accepted-keeps (copy s t) S a T x h e q = both-of a _ T _ q (filled S h t _ (slot-small S h s)) zeros
 accepted-keeps (fetch b s) S a T x h e q = both-of a _ T _ q (filled S h s _ (slot-below (frames S) (h .inFrames) _ b)) zeros
@@ -228,6 +236,7 @@ accepted-keeps (deleteAll rs) S a T x h e q =
     let n = neither (eqb (length rs) 0) (ltb 16 (length rs)) (m .0) in
     let most = sum-most (λ r. pagesOf (pages S) (tagOf (regions S) r)) 256 rs (all-each _ (λ r. pages-below (pages S) (tagOf (regions S) r)) rs) in
     both-of a _ T _ q (deleted-bounded S h rs) (one _ (omega (arith, most, ltb-false 16 (length rs) (n .1))))
+accepted-keeps (ask y) S a T x h e q = both-of a _ T _ q h (query-below S h y)
 
 keeps-bounds : (c : Call) (S : Store) (a : Answer) (T : Store) → Sent c → Bounded S → Outcome c S a T → Bounded T × Bits32 (a .values)
 unfolding Outcome

@@ -10,19 +10,23 @@ use lib.Dec.{eqb, leb}
 use borrow.Author.Tests.{eq-eqb, ne-eqb, leb-true}
 use Rattle.lists.specs.Lists.{pick, every}
 use Rattle.lists.specs.Laws.Tests.{both}
-use Rattle.model.specs.Model.{Call, declare, newRegion, subregion, push, dropFrame, handBack, allocate, first, copy, fetch, clear, load, setPointer, put, get, view, same, about, report, totals, audit, delete, deleteAll}
+use Rattle.model.specs.Model.{Call, declare, newRegion, subregion, push, dropFrame, handBack, allocate, first, copy, fetch, clear, load, setPointer, put, get, view, same, about, report, totals, audit, delete, deleteAll, Query, locate, ask}
 use Rattle.model.specs.Calls.{reason, _yields_}
 use Rattle.model.specs.Laws.Passed.{names-numbers}
 use Rattle.pages.specs.Pages.{wrongLength, wrongLengthIn}
 use Rattle.outcomes.specs.Store.{Store, pages}
 use Rattle.outcomes.specs.Sound.{Sound}
-use Rattle.outcomes.specs.Outcome.{Outcome, Answered, badLength, dead, checks, refusal}
+use Rattle.outcomes.specs.Outcome.{Outcome, Answered, badLength, dead, checks, queryChecks, refusal}
 use Rattle.promises.specs.Promises.{LengthFirst, Refusals}
 use Rattle.promises.specs.Laws.Refused.{refusals}
 
 -- 21 comes first, and with no other test
 other : Bool × ℕ → Bool
 other t = not (eqb (t .1) 21)
+
+query-test : (S : Store) (q : Query) → every other (queryChecks S q) ≡ true
+unfolding queryChecks other
+query-test S (locate s) = refl
 
 first-test : (S : Store) (c : Call) → c ≢ totals → c ≢ audit → (ts : List (Bool × ℕ)) × (checks S c ≡ badLength S yields 21 ∷ ts) × (every other ts ≡ true)
 unfolding checks other
@@ -49,6 +53,7 @@ first-test S totals nt na = absurd (nt refl)
 first-test S audit nt na = absurd (na refl)
 first-test S (delete r) nt na = (_, refl, refl)
 first-test S (deleteAll rs) nt na = (_, refl, names-numbers (λ n. not (eqb n 21)) refl refl (dead S) rs _ refl)
+first-test S (ask q) nt na = (_, refl, query-test S q)
 
 never : (ts : List (Bool × ℕ)) → every other ts ≡ true → reason ts ≢ 21
 unfolding other

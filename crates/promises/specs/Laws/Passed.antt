@@ -4,10 +4,14 @@ use mathlib.Core.Path.{_≡_, refl}
 use mathlib.Core.Bool.{true, false}
 use lib.Dec.{ltb}
 use Rattle.lists.specs.Lists.{every, All}
-use Rattle.model.specs.Model.{Call, declare, newRegion, subregion, push, dropFrame, handBack, allocate, first, copy, fetch, clear, load, setPointer, put, get, view, same, about, report, totals, audit, delete, deleteAll}
+use Rattle.model.specs.Model.{Call, declare, newRegion, subregion, push, dropFrame, handBack, allocate, first, copy, fetch, clear, load, setPointer, put, get, view, same, about, report, totals, audit, delete, deleteAll, Query, locate, ask}
 use Rattle.model.specs.Laws.Passed.{positive, all-passed, names-numbers}
 use Rattle.outcomes.specs.Store.{Store}
-use Rattle.outcomes.specs.Outcome.{checks, refusal, dead}
+use Rattle.outcomes.specs.Outcome.{checks, queryChecks, refusal, dead}
+
+query-numbers : (S : Store) (q : Query) → every positive (queryChecks S q) ≡ true
+unfolding queryChecks
+query-numbers S (locate s) = refl
 
 numbers : (S : Store) (c : Call) → every positive (checks S c) ≡ true
 unfolding checks
@@ -34,6 +38,7 @@ numbers S totals = refl
 numbers S audit = refl
 numbers S (delete r) = refl
 numbers S (deleteAll rs) = names-numbers (ltb 0) refl refl (dead S) rs _ refl
+numbers S (ask q) = query-numbers S q
 
 pub passed : (S : Store) (c : Call) → refusal S c ≡ 0 → All (λ t. t .0 ≡ false) (checks S c)
 unfolding refusal

@@ -3,7 +3,7 @@
 use mathlib.Core.Path.{subst⁻¹}
 use mathlib.Core.List.{List, [], _∷_, map}
 use Prim.Native.Nat.{ℕ, zero, suc}
-use Rattle.model.specs.Model.{Answer, Call, declare, newRegion, subregion, push, dropFrame, handBack, allocate, first, copy, fetch, clear, load, setPointer, put, get, view, same, about, report, totals, audit, delete, deleteAll}
+use Rattle.model.specs.Model.{Answer, Call, declare, newRegion, subregion, push, dropFrame, handBack, allocate, first, copy, fetch, clear, load, setPointer, put, get, view, same, about, report, totals, audit, delete, deleteAll, ask}
 use Rattle.frames.specs.declared.Frames.{Frames}
 use Rattle.frames.specs.Frames.{topFrame}
 use Rattle.regions.specs.declared.Regions.{Regions}
@@ -78,7 +78,7 @@ accepted-sized (subregion r) S a T h q = subst⁻¹ Sized (q .1) (with-regions S
 accepted-sized (push n) S a T h q = subst⁻¹ Sized (q .1) (with-frames S h _ (push-frame (frames S) (h .inFrames) n))
 accepted-sized dropFrame S a T h q = subst⁻¹ Sized (q .1) (popped-sized S h)
 accepted-sized (handBack s b) S a T h q = subst⁻¹ Sized (q .1) (filled _ (popped-sized S h) _ _)
-accepted-sized (allocate s r k) S a T h q = subst⁻¹ Sized (q .1 .2) (allocated-sized S _ _ _ _ h)
+accepted-sized (allocate s r k) S a T h q = subst⁻¹ Sized (q .1) (allocated-sized S _ _ _ _ h)
 accepted-sized (first s r) S a T h q = subst⁻¹ Sized (q .1) (filled S h _ _)
 accepted-sized (copy s t) S a T h q = subst⁻¹ Sized (q .1) (filled S h _ _)
 accepted-sized (fetch b s) S a T h q = subst⁻¹ Sized (q .1) (filled S h _ _)
@@ -95,6 +95,7 @@ accepted-sized totals S a T h q = subst⁻¹ Sized (q .1) h
 accepted-sized audit S a T h q = subst⁻¹ Sized (q .1) h
 accepted-sized (delete r) S a T h q = subst⁻¹ Sized (q .1) (deleted-sized S h (r ∷ []))
 accepted-sized (deleteAll rs) S a T h q = subst⁻¹ Sized (q .1) (deleted-sized S h rs)
+accepted-sized (ask x) S a T h q = subst⁻¹ Sized (q .1) h
 
 pub keeps-size : (c : Call) (S : Store) (a : Answer) (T : Store) → Sized S → Outcome c S a T → Sized T
 unfolding Outcome

@@ -7,17 +7,17 @@ use mathlib.Core.List.{List, [], _∷_, map}
 use Prim.Native.Nat.{ℕ, zero, suc, _+_, _-_, _*_, _/_, _<_, _≤_}
 use native.Mathlib.Omega.{arith}
 use lib.Dec.{eqb}
-use lib.ListN.{length, getD, take, drop}
+use lib.ListN.{length, getD, take, drop, length-map}
 use lib.Seq.{take-take}
 use borrow.Author.Tests.{eqb-true, eq-eqb}
 use Rattle.lists.specs.Lists.{bit, pick, sumOf, sumOf₂, keep, All, from, upTo, times, among, joined}
 use Rattle.lists.specs.Laws.Tests.{by-test, pick-same, eqb-sym}
 use Rattle.lists.specs.Laws.All.{all-map}
 use Rattle.lists.specs.Laws.Sums.{sum-same, sum-map, sum-keep, sum-joined, sum-split}
-use Rattle.lists.specs.Laws.Finds.{times-keep, any-false}
+use Rattle.lists.specs.Laws.Finds.{getD-map-in, times-keep, any-false}
 use Rattle.lists.specs.Laws.UpTo.{all-from, sum-below, sum-part}
-use Rattle.model.specs.Model.{Model, Answer, delete, deleteAll, gives, live, region, marks, livesIn, homeIn, parentIn, topPlace, into, freeInto, inFrames, outside, stored}
-use Rattle.model.specs.Calls.{refusal, reply, accepted, others, removeRegions}
+use Rattle.model.specs.Model.{Model, Region, Answer, delete, deleteAll, gives, live, region, marks, livesIn, homeIn, parentIn, topPlace, into, freeInto, inFrames, outside, stored}
+use Rattle.model.specs.Calls.{refusal, reply, accepted, others, heldAfter, removeRegions}
 use Rattle.model.specs.Valid.{Valid}
 use Rattle.model.specs.Moves.{newly, fromRegion, fromRegions}
 use Rattle.model.specs.Laws.Regions.{live-others, region-others, not-removed, lived-before}
@@ -30,16 +30,16 @@ use Rattle.regions.specs.Regions.{nameAt, entryOf, tagOf, parentAt, levelAt, ne
 use Rattle.regions.specs.Laws.Recount.{recount-beside}
 use Rattle.regions.specs.Laws.Removed.{count-stays, name-left, entry-left, tag-left}
 use Rattle.pages.specs.declared.Pages.{Pages}
-use Rattle.pages.specs.Pages.{pageCount, ownerAt, ownerOf, pagesOf, freed, ownersTo}
-use Rattle.pages.specs.Laws.Gone.{gone-owner, gone-other, gone-pages, gone-held, gone-pointer, gone-free}
+use Rattle.pages.specs.Pages.{pageCount, ownerAt, ownerOf, freed, ownersTo}
+use Rattle.pages.specs.Laws.Gone.{gone-owner, gone-other, gone-held, gone-pointer}
 use Rattle.objects.specs.Objects.{freeWordsOn, freeWordsOf, outOf}
 use Rattle.objects.specs.Laws.Leaving.{out-own}
 use Rattle.outcomes.specs.Store.{Store, frames, kinds, regions, pages, slotTargets}
 use Rattle.outcomes.specs.Outcome.{Accepted, withFrames, withRegions, withPages, recounted, outgoing, newlyIn, newlyCounted, deleted}
-use Rattle.refinement.specs.Represents.{spot, tagFor, Alive, wordsIn, FramesAgree, RegionsAgree, PagesAgree, RoomAgrees, Tiles, ObjectsAgree, Represents}
-use Rattle.refinement.specs.Laws.Tags.{tag-some, live-named, tag-same, tag-among, zero-tag, tags-once, name-among, entry-among}
+use Rattle.refinement.specs.Represents.{spot, tagFor, Alive, wordsIn, FramesAgree, RegionsAgree, Owned, PagesAgree, RoomAgrees, Tiles, ObjectsAgree, Represents}
+use Rattle.refinement.specs.Laws.Tags.{tag-some, live-named, tag-same, tag-among, name-among, entry-among}
 use Rattle.refinement.specs.Laws.Kept.{same-entry, same-tag, regions-kept, pages-kept, objects-kept}
-use Rattle.refinement.specs.Laws.Reads.{frame-count, top-frame, page-count}
+use Rattle.refinement.specs.Laws.Reads.{frame-count, top-frame, page-count, held-are}
 use Rattle.refinement.specs.Laws.Counts.{count-is, slots-into}
 use Rattle.refinement.specs.Laws.Walks.{homes-on}
 use Rattle.refinement.specs.Laws.Report.{ids-objects, weight, page-words}
@@ -119,25 +119,28 @@ module _ {L : Model} {sp : List ℕ} {g : Regions} (v : Valid L) (a : RegionsAgr
       some = b .some;
       most = b .most;
       whole = b .whole;
-      free = gone-free p tags (zero-tag a rs (m .live)) (tags-once a rs (m .live) (m .distinct))
-          ∙ ap₂ _+_ (b .free) (sum-map (pagesOf p) (tagOf g) rs ∙ sum-same _ _ rs (all-map (b .held) rs (m .live)));
-      held = λ q k. let o = other q k in
-          rw (tag-kept q k, region-others (L .regions) rs q (o .1)) (gone-pages p tags (tagOf g q) (tag-some g q) (tag-apart q k) ∙ b .held q (o .0));
+      listed = length-map (L .holders) (heldAfter rs) ∙ b .listed;
       owned = λ j h. owned j h (b .owned j h);
       room = λ q k. let o = other q k in
-          rw (region-others (L .regions) rs q (o .1), entry-kept q k) (room q k ((region (L .regions) q) .room) (newestAt g (entryOf g q)) (b .room q (o .0)));
+          rw (region-others (L .regions) rs q (o .1), entry-kept q k) (room q k (region (L .regions) q) (newestAt g (entryOf g q)) (b .room q (o .0)));
     }
       where
-        owned : (j : ℕ) → j < p .made → (ownerAt p j ≡ 0) ⊎ ((q : ℕ) × (livesIn L q ≡ true) × (ownerAt p j ≡ tagOf g q))
-            → (ownerAt free j ≡ 0) ⊎ ((q : ℕ) × Left q × (ownerAt free j ≡ tagOf left q))
-        owned j h (inl e) = inl (gone-owner p tags j (counted j h) ∙ rw (e, pick-same {A = ℕ} (among 0 tags) 0))
-        owned j h (inr (q, l, e)) = by-test (among q rs)
-            (λ d. inl (gone-owner p tags j (counted j h) ∙ rw (e, tag-among a rs (m .live) q l, d)))
-            (λ d. let k = live-others (L .regions) rs q d ∙ l in inr (q, k, owner-kept j q h k e))
+        -- the holder in the model
+        holder : (j : ℕ) → j < p .made → getD (map (heldAfter rs) (L .holders)) j 0 ≡ heldAfter rs (getD (L .holders) j 0)
+        holder j h = getD-map-in (heldAfter rs) (L .holders) j 0 0 (omega (arith, b .listed))
 
-        room : (q : ℕ) → Left q → (n i : ℕ) → RoomAgrees n p (tagOf g q) i → RoomAgrees n free (tagOf left q) i
-        room q k n zero h = h
-        room q k n (suc j) h = record { made = h .made; own = owner-kept j q (h .made) k (h .own); left = h .left }
+        owned : (j : ℕ) → j < p .made → Owned L g p j
+            → let q = getD (map (heldAfter rs) (L .holders)) j 0 in ((q ≡ 0) × (ownerAt free j ≡ 0)) ⊎ (Left q × (ownerAt free j ≡ tagOf left q))
+        owned j h (inl (z, e)) = inl (holder j h ∙ rw (z, pick-same {A = ℕ} (among 0 rs) 0), gone-owner p tags j (counted j h) ∙ rw (e, pick-same {A = ℕ} (among 0 tags) 0))
+        owned j h (inr (l, e)) =
+            let q = getD (L .holders) j 0 in
+            by-test (among q rs)
+            (λ d. inl (holder j h ∙ rw d, gone-owner p tags j (counted j h) ∙ rw (e, tag-among a rs (m .live) q l, d)))
+            (λ d. let k = live-others (L .regions) rs q d ∙ l in let s = holder j h ∙ rw d in inr (rw s k, owner-kept j q h k e ∙ ap (tagOf left) (sym s)))
+
+        room : (q : ℕ) → Left q → (x : Region) (i : ℕ) → RoomAgrees x p (tagOf g q) i → RoomAgrees x free (tagOf left q) i
+        room q k x zero h = h
+        room q k x (suc j) h = record { made = h .made; own = owner-kept j q (h .made) k (h .own); page = h .page; left = h .left }
 
     module _ {ids : ℕ → List ℕ} {heap : List ℕ} (o : ObjectsAgree L sp ids g p heap) (all : length heap ≡ words) where
       -- the objects of a page that is still held are left
@@ -301,11 +304,11 @@ pub delete-all-step : (L : Model) (sp : List ℕ) (ids : ℕ → List ℕ) (S : 
 unfolding Accepted reply accepted
 delete-all-step L sp ids S v h a T rs small e (x, y) =
     let m = removable-all L rs e in
-    (x ∙ ap (λ n. gives (n ∷ [])) (sum-same _ _ rs (all-map (h .onPages .held) rs (m .live))), rw y (deleted-represents L sp ids S v h rs m small))
+    (x ∙ ap (λ n. gives (n ∷ [])) (sum-same _ _ rs (all-map (held-are (h .onRegions) (h .onPages)) rs (m .live))), rw y (deleted-represents L sp ids S v h rs m small))
 
 pub delete-step : (L : Model) (sp : List ℕ) (ids : ℕ → List ℕ) (S : Store) → Valid L → Represents L sp ids S → (a : Answer) (T : Store) (r : ℕ) → ((q : ℕ) → outside L q ≤ 16640)
     → refusal L (delete r) ≡ 0 → Accepted (delete r) S a T → (a ≡ reply L (delete r)) × Represents (accepted L (delete r)) sp ids T
 unfolding Accepted reply accepted
 delete-step L sp ids S v h a T r small e (x, y) =
     let m = removable-one L r e in
-    (x ∙ rw (h .onPages .held r (m .live .0)), rw y (deleted-represents L sp ids S v h (r ∷ []) m small))
+    (x ∙ rw (held-are (h .onRegions) (h .onPages) r (m .live .0)), rw y (deleted-represents L sp ids S v h (r ∷ []) m small))

@@ -4,15 +4,15 @@ use mathlib.Core.Path.{_≡_, refl, sym, _∙_, subst}
 use mathlib.Core.Logic.{inl}
 use mathlib.Core.Bool.{true, false, _&&_, or-false, false≢true}
 use mathlib.Core.List.{List, []}
-use Prim.Native.Nat.{ℕ, zero, suc, _*_, _/_, _%_, _≤_, _<_, min}
+use Prim.Native.Nat.{ℕ, zero, suc, _*_, _/_, _%_, _≤_, _<_}
 use native.Mathlib.Omega.{arith}
 use lib.Dec.{eqb, leb}
 use lib.ListN.{length, replicate, length-replicate}
 use borrow.Author.Tests.{eqb-true, leb-true, lt-ltb, lt-leb}
-use Rattle.lists.specs.Lists.{bit, pick, upTo}
+use Rattle.lists.specs.Lists.{pick, upTo}
 use Rattle.lists.specs.Laws.Tests.{both, pick-same}
-use Rattle.lists.specs.Laws.Sums.{sum-ones, sum-pick}
-use Rattle.lists.specs.Laws.UpTo.{sum-below, length-upTo}
+use Rattle.lists.specs.Laws.Sums.{sum-pick}
+use Rattle.lists.specs.Laws.UpTo.{sum-below}
 use Rattle.model.specs.Model.{Answer, region, marks, livesIn, homeIn, gives, stored, inWords, inFrames}
 use Rattle.model.specs.Calls.{fresh, makes}
 use Rattle.frames.specs.Frames.{widthAt, slotAt}
@@ -21,7 +21,7 @@ use Rattle.kinds.specs.Kinds.{kindCount, sizeOf, sizeIn}
 use Rattle.regions.specs.declared.Regions.{Regions}
 use Rattle.regions.specs.Regions.{nameAt, entryOf, tagOf, parentAt, levelAt, newestAt, oldestAt, countAt, entryIn}
 use Rattle.pages.specs.declared.Pages.{Pages}
-use Rattle.pages.specs.Pages.{pageCount, ownerAt, pagesOf, pagesIn}
+use Rattle.pages.specs.Pages.{ownerAt}
 use Rattle.lists.specs.Laws.Ticks.{blank-at}
 use Rattle.outcomes.specs.Store.{Store}
 use Rattle.outcomes.specs.Outcome.{store, blank, MakeOutcome}
@@ -51,14 +51,6 @@ module _ (n : ℕ) where
   unfolding ownerAt blank
   all-free j = blank-at 256 j
 
-  free-pages : n ≤ 256 → pagesOf p 0 ≡ n
-  unfolding pagesOf pageCount blank pagesIn ownerAt
-  free-pages h = sum-below (λ j. bit (eqb (ownerAt p j) 0)) (λ j. 1) (min n 256) (λ j l. rw (all-free j)) ∙ sum-ones (upTo (min n 256)) ∙ length-upTo (min n 256) ∙ omega arith
-
-  held-pages : pagesOf p 1 ≡ 0
-  unfolding pagesOf pagesIn ownerAt pageCount
-  held-pages = sum-below (λ j. bit (eqb (ownerAt p j) 1)) (λ j. 0) (pageCount p) (λ j l. rw (all-free j)) ∙ sum-pick false (λ j. 0) (upTo (pageCount p))
-
   no-kind : (m : ℕ) → sizeOf k m ≡ length (marks [] m)
   unfolding sizeOf kindCount k blank sizeIn
   no-kind zero = refl
@@ -78,10 +70,9 @@ module _ (n : ℕ) where
       some = low;
       most = high;
       whole = length-replicate (64 * n) 0;
-      free = free-pages high;
-      held = λ r l. subst (λ q. pagesOf p (tagOf g q) ≡ (region ((fresh n) .regions) q) .pages) (one-lives r l) held-pages;
-      owned = λ j h. inl (all-free j);
-      room = λ r l. subst (λ q. RoomAgrees ((region ((fresh n) .regions) q) .room) p (tagOf g q) (newestAt g (entryOf g q))) (one-lives r l) refl;
+      listed = length-replicate n 0;
+      owned = λ j h. inl (blank-at n j, all-free j);
+      room = λ r l. subst (λ q. RoomAgrees (region ((fresh n) .regions) q) p (tagOf g q) (newestAt g (entryOf g q))) (one-lives r l) refl;
     };
     onObjects = record {
       known = refl;

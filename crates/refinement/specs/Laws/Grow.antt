@@ -10,7 +10,7 @@ use lib.Dec.{eqb, ltb, leb}
 use lib.ListN.{length, getD, set, take, length-append, List·getD-eq-default}
 use lib.Seq.{getD-set-same, getD-set-other, getD-at}
 use borrow.Author.Tests.{eq-eqb, ne-eqb, lt-ltb, ltb-false, le-leb, lt-leb, leb-true, leb-false, not-false}
-use Rattle.lists.specs.Lists.{bit, pick, anyOf, sumOf, sumOf₂, upTo}
+use Rattle.lists.specs.Lists.{pick, anyOf, sumOf, sumOf₂, upTo}
 use Rattle.lists.specs.Laws.Tests.{neither, pick-same, by-test, by-same}
 use Rattle.lists.specs.Laws.Sums.{sum-append, sum-nothing, sum₂-nothing}
 use Rattle.lists.specs.Laws.Finds.{find-append}
@@ -32,7 +32,7 @@ use Rattle.regions.specs.Regions.{nameAt, entryOf, tagOf, parentAt, levelAt, ne
 use Rattle.regions.specs.Laws.Added.{name-new, name-old, entry-old, entry-new, count-old}
 use Rattle.regions.specs.Laws.Recount.{beside-same}
 use Rattle.pages.specs.declared.Pages.{Pages}
-use Rattle.pages.specs.Pages.{pageCount, ownerAt, pagesOf, pagesIn}
+use Rattle.pages.specs.Pages.{ownerAt}
 use Rattle.outcomes.specs.Store.{Store, kinds, regions, pages}
 use Rattle.outcomes.specs.Shape.{Sized, KindsSized, RegionsSized}
 use Rattle.outcomes.specs.Outcome.{Accepted, withRegions}
@@ -140,7 +140,7 @@ stored-none L r h = omega (
 
 -- the region that comes, with the next name
 abbrev added : Model → ℕ → ℕ → Region
-added L u l = record { name = L .given + 1; parent = u; level = l; pages = 0; room = 0; oldest = 0 }
+added L u l = record { name = L .given + 1; parent = u; level = l; newest = 0; room = 0; oldest = 0 }
 
 abbrev more : Model → ℕ → ℕ → List Region
 more L u l = L .regions ++ (added L u l ∷ [])
@@ -224,17 +224,12 @@ module _ (L : Model) (sp : List ℕ) (g : Regions) (v : Valid L) (a : RegionsAgr
   unowned p words b j h = ne-eqb (ownerAt p j) (i + 1) (λ e. go e (b .owned j h))
     where
       go : ownerAt p j ≡ i + 1 → Owned L g p j → ⊥
-      go e (inl z) = omega arith
-      go e (inr (r, q, o)) = entry-other r q (omega arith)
+      go e (inl (z, o)) = omega arith
+      go e (inr (q, o)) = entry-other (getD (L .holders) j 0) q (omega arith)
 
   tag-last : tagOf (withRegion g i t l) (L .given + 1) ≡ i + 1
   unfolding tagOf
   tag-last = ap (λ x. x + 1) entry-last
-
-  none-held : (p : Pages) (words : ℕ) → PagesAgree L g p words → pagesOf p (tagOf (withRegion g i t l) (L .given + 1)) ≡ 0
-  unfolding pagesOf pageCount pagesIn ownerAt
-  none-held p words b = rw tag-last (sum-below (λ j. bit (eqb (ownerAt p j) (i + 1))) (λ j. 0) (min (p .made) 256) (λ j h. ap bit (unowned p words b j (omega arith)))
-      ∙ sum-nothing (λ j. 0) (λ j. refl) (upTo (min (p .made) 256)))
 
   newest-old : (e : ℕ) → e ≢ i → newestAt (withRegion g i t l) e ≡ newestAt g e
   unfolding newestAt withRegion
@@ -250,18 +245,16 @@ module _ (L : Model) (sp : List ℕ) (g : Regions) (v : Valid L) (a : RegionsAgr
     some = b .some;
     most = b .most;
     whole = b .whole;
-    free = b .free;
-    held = λ r q. by-live (λ n. pagesOf p (tagOf (withRegion g i t l) n) ≡ (region (more L u l) n) .pages) r q
-        (λ o. rw (region-more (L .regions) (added L u l) r o, tag-same r o) (b .held r o)) (rw region-last (none-held p words b));
+    listed = b .listed;
     owned = λ j h. go j (b .owned j h);
-    room = λ r q. by-live (λ n. RoomAgrees ((region (more L u l) n) .room) p (tagOf (withRegion g i t l) n) (newestAt (withRegion g i t l) (entryOf (withRegion g i t l) n))) r q
+    room = λ r q. by-live (λ n. RoomAgrees (region (more L u l) n) p (tagOf (withRegion g i t l) n) (newestAt (withRegion g i t l) (entryOf (withRegion g i t l) n))) r q
         (λ o. rw (region-more (L .regions) (added L u l) r o, tag-same r o, entry-same r o, newest-old (entryOf g r) (entry-other r o)) (b .room r o)) (rw (region-last, entry-last, newest-new) refl);
   }
     where
       go : (j : ℕ) → Owned L g p j
-          → (ownerAt p j ≡ 0) ⊎ ((r : ℕ) × (live (more L u l) r ≡ true) × (ownerAt p j ≡ tagOf (withRegion g i t l) r))
+          → let r = getD (L .holders) j 0 in ((r ≡ 0) × (ownerAt p j ≡ 0)) ⊎ ((live (more L u l) r ≡ true) × (ownerAt p j ≡ tagOf (withRegion g i t l) r))
       go j (inl z) = inl z
-      go j (inr (r, q, o)) = inr (r, live-more (L .regions) (added L u l) r q, o ∙ sym (tag-same r q))
+      go j (inr (q, o)) = let r = getD (L .holders) j 0 in inr (live-more (L .regions) (added L u l) r q, o ∙ sym (tag-same r q))
 
   homes-past : (q : ℕ) → homeIn L q ≢ L .given + 1
   homes-past q e = omega (arith, all-at (λ o. o .home ≤ L .given) (noObject ∷ L .objects) q noObject (omega arith, all-map (λ o h. h .homeGiven) (L .objects) (v .objects)) (omega arith))

@@ -19,7 +19,7 @@ use Rattle.refinement.specs.Represents.{spot, tagFor, Alive, wordsIn, Ti
 
 -- the model L with other kinds, frames, m and objects
 abbrev pub altered : Model → List (List ℕ) → List (List ℕ) → ℕ → List Object → Model
-altered L ks fs m os = record { free = L .free; kinds = ks; regions = L .regions; frames = fs; counted = m; given = L .given; objects = os }
+altered L ks fs m os = record { holders = L .holders; kinds = ks; regions = L .regions; frames = fs; counted = m; given = L .given; objects = os }
 
 -- counts have no part in entries and tags
 module _ {g h : Regions} (b : Beside g h) where
@@ -54,15 +54,14 @@ module _ (L : Model) (ks fs : List (List ℕ)) (m : ℕ) (os : List Object) {g h
     some = a .some;
     most = a .most;
     whole = a .whole;
-    free = a .free;
-    held = λ r l. rw (same-tag b r) (a .held r l);
+    listed = a .listed;
     owned = λ j k. owned j (a .owned j k);
     room = λ r l. rw (same-entry b r, same-tag b r, b .newest) (a .room r l);
   }
     where
       owned : (j : ℕ) → Owned L g p j → Owned L h p j
       owned j (inl e) = inl e
-      owned j (inr (r, l, e)) = inr (r, l, e ∙ sym (same-tag b r))
+      owned j (inr (l, e)) = inr (l, e ∙ sym (same-tag b (getD (L .holders) j 0)))
 
 -- objects that stay alive, in place and as long as they were
 pub tiles-kept : (L L₂ : Model) (sp sp₂ : List ℕ) → ((p : ℕ) → Alive L p → Alive L₂ p × (spot sp₂ p ≡ spot sp p) × (length (wordsIn L₂ p) ≡ length (wordsIn L p)))

@@ -18,7 +18,7 @@ use Rattle.lists.specs.Laws.Sums.{sum-append, sum-same}
 use Rattle.lists.specs.Laws.Sets.{getD-sets-in, getD-sets-out}
 use Rattle.lists.specs.Laws.UpTo.{all-from, sum-change, sum-from-suc}
 use Rattle.model.specs.Model.{Model, Object, noObject, object, marks, livesIn, homeIn, homeOf, parentIn, allowed}
-use Rattle.model.specs.Calls.{size, addObject}
+use Rattle.model.specs.Calls.{size, pageFor, wordFor, addObject}
 use Rattle.model.specs.Valid.{Valid, known, fine}
 use Rattle.model.specs.Laws.Slots.{Known, object-valid}
 use Rattle.model.specs.Laws.Regions.{live-map, in-range}
@@ -49,7 +49,7 @@ module _ {A : Type 0} (d : A) (l : List A) (x : A) where
 
 -- the new object, its id, and what a page holds with it
 abbrev pub newObject : Model → ℕ → ℕ → Object
-newObject L r k = record { home = r; kind = k; words = replicate (length (marks (L .kinds) k)) 0 }
+newObject L r k = record { home = r; kind = k; page = pageFor L r (size L k); word = wordFor L r (size L k); words = replicate (length (marks (L .kinds) k)) 0 }
 
 abbrev pub newId : Model → ℕ
 newId L = length (L .objects) + 1
@@ -62,7 +62,7 @@ os₂ L r k = L .objects ++ (newObject L r k ∷ [])
 
 pub made-lives : (L : Model) (r k q : ℕ) → livesIn (addObject L r k) q ≡ livesIn L q
 unfolding addObject change
-made-lives L r k q = live-map (change r (size L k) (newId L)) (name-kept r (size L k) (newId L)) (L .regions) q
+made-lives L r k q = let j = pageFor L r (size L k) in live-map (change r (size L k) (newId L) j) (name-kept r (size L k) (newId L) j) (L .regions) q
 
 -- the pointers that are known stay, with the new one after them
 module _ (L : Model) (sp : List ℕ) (len : length sp ≡ length (L .objects)) (a : ℕ) where
@@ -85,7 +85,8 @@ Onto g p ids r j t base = ((ownerAt p j ≡ tagOf g r) × (getD (p .taken) j 0 �
 
 module _ (L : Model) (sp : List ℕ) (ids : ℕ → List ℕ) (g : Regions) (p : Pages) (heap : List ℕ) (v : Valid L) (ra : RegionsAgree L sp g) (oa : ObjectsAgree L sp ids g p heap)
     (r k j t : ℕ) (base : List ℕ) (lr : livesIn L r ≡ true) (room : t + size L k ≤ 64)
-    (jm : j < p .made) (jo : j < length (p .owners)) (jt : j < length (p .taken)) (jh : 64 * j + 64 ≤ length heap) (page : Onto g p ids r j t base) where
+    (jm : j < p .made) (jo : j < length (p .owners)) (jt : j < length (p .taken)) (jh : 64 * j + 64 ≤ length heap) (page : Onto g p ids r j t base)
+    (onto : pageFor L r (size L k) ≡ j) (behind : wordFor L r (size L k) ≡ t) where
   abbrev n : ℕ
   n = length (marks (L .kinds) k)
 
@@ -193,14 +194,21 @@ module _ (L : Model) (sp : List ℕ) (ids : ℕ → List ℕ) (g : Regions) (p :
       go : (spot sp q + length (wordsIn L q) < a) ⊎ (a + n < spot sp q) → Laid heap₂ sp₂ (marks (L .kinds) ((object (L .objects) q) .kind)) q (object (L .objects) q)
       go z = record {
         placed = rw (spot-old q h) (m .placed);
+        page = rw (spot-old q h) (m .page);
+        word = rw (spot-old q h) (m .word);
         inside = rw (spot-old q h, length-sets) (m .inside);
         header = rw (spot-old q h) (out z (spot sp q - 1) (omega arith) (omega (arith, m .placed)) ∙ m .header);
         words = λ i b. rw (spot-old q h, same i b) (out z (spot sp q + i) (omega arith) (omega arith) ∙ m .words i b);
       }
 
+  a-page : (a - 1) / 64 ≡ j
+  a-page = omega arith
+
   new-laid : Laid heap₂ sp₂ (marks (L .kinds) k) (newId L) (newObject L r k)
   new-laid = record {
     placed = rw spot-new (omega arith);
+    page = rw (spot-new, onto) a-page;
+    word = rw (spot-new, behind) (omega arith);
     inside = rw (spot-new, length-sets, length-replicate) (omega arith);
     header = let e : 64 * j + t + 0 ≡ a - 1 = omega arith in rw spot-new (subst (λ i. getD heap₂ i 0 ≡ k) e (heap-in 0 (omega arith)));
     words = λ i h. rw spot-new (word i (rw length-replicate at h));
@@ -224,9 +232,6 @@ module _ (L : Model) (sp : List ℕ) (ids : ℕ → List ℕ) (g : Regions) (p :
       swap : {A B : Type 0} → A ⊎ B → B ⊎ A
       swap (inl x) = inr x
       swap (inr x) = inl x
-
-  a-page : (a - 1) / 64 ≡ j
-  a-page = omega arith
 
   owned₂ : (q : ℕ) → Alive (addObject L r k) q → ownerOf p₂ (spot sp₂ q) ≡ tagOf g (homeOf (os₂ L r k) q)
   owned₂ = each (λ q x o. ownerOf p₂ x ≡ tagOf g (o .home)) (λ q h l. owner-is p₂ (spot sp q) (oa .laid q l .placed) ∙ old q l (by-same ((spot sp q - 1) / 64) j))

@@ -2,17 +2,19 @@
 -- Assumes nothing.
 use mathlib.Core.Path.{_≡_, refl, sym, ap, _∙_}
 use mathlib.Core.Logic.{_⊎_, inl, inr, _≢_}
-use mathlib.Core.Bool.{false}
+use mathlib.Core.Bool.{true, false}
 use mathlib.Core.List.{List, []}
 use Prim.Native.Nat.{ℕ, _+_, _-_, _*_, _≤_, _<_}
 use native.Mathlib.Omega.{arith}
 use lib.Dec.{eqb, leb}
 use lib.ListN.{length, getD, List·getD-eq-default}
 use borrow.Author.Tests.{eqb-true, eqb-false, eq-eqb, ne-eqb, leb-true, leb-false}
-use Rattle.lists.specs.Lists.{All}
+use Rattle.lists.specs.Lists.{bit, sumOf, countOf, All, upTo}
 use Rattle.lists.specs.Laws.Tests.{by-test, or-right, or-other}
 use Rattle.lists.specs.Laws.All.{all-map, all-at}
-use Rattle.model.specs.Model.{Model, object, marks, livesIn, homeIn, topPlace, top, slot}
+use Rattle.lists.specs.Laws.Finds.{find-same}
+use Rattle.lists.specs.Laws.UpTo.{all-upTo, sum-below, sum-places}
+use Rattle.model.specs.Model.{Model, object, marks, livesIn, homeIn, heldBy, lowestFree, topPlace, top, slot}
 use Rattle.model.specs.Calls.{lacks}
 use Rattle.model.specs.Valid.{Valid}
 use Rattle.model.specs.Laws.Slots.{Known, slot-known, object-valid}
@@ -21,13 +23,13 @@ use Rattle.frames.specs.Frames.{frameCount, topFrame, widthAt, slotAt}
 use Rattle.kinds.specs.declared.Kinds.{Kinds}
 use Rattle.kinds.specs.Kinds.{kindCount}
 use Rattle.regions.specs.declared.Regions.{Regions}
-use Rattle.regions.specs.Regions.{nameOf}
+use Rattle.regions.specs.Regions.{nameOf, tagOf}
 use Rattle.pages.specs.declared.Pages.{Pages}
-use Rattle.pages.specs.Pages.{pageCount, ownerIn, ownerOf, wrongLength, wrongLengthIn}
+use Rattle.pages.specs.Pages.{pageCount, ownerAt, ownerIn, ownerOf, pageOf, wordOf, firstFree, firstFreeIn, pagesOf, pagesIn, wrongLength, wrongLengthIn}
 use Rattle.objects.specs.Objects.{kindOf, wordCount, markOf, wordAt}
 use Rattle.outcomes.specs.Store.{Store, slot as storeSlot}
-use Rattle.refinement.specs.Represents.{Represents, FramesAgree, KindsAgree, RegionsAgree, PagesAgree, ObjectsAgree, Alive, spot, imageOf, wordsIn, tagFor}
-use Rattle.refinement.specs.Laws.Tags.{Named, tag-for, for-name}
+use Rattle.refinement.specs.Represents.{Represents, FramesAgree, KindsAgree, RegionsAgree, Owned, PagesAgree, ObjectsAgree, Alive, spot, imageOf, wordsIn, tagFor}
+use Rattle.refinement.specs.Laws.Tags.{Named, live-for, tag-for, for-name, for-same}
 
 -- ---- frames
 
@@ -75,9 +77,43 @@ module _ {L : Model} {g : Regions} {p : Pages} {words : ℕ} (a : PagesAgree L g
   unfolding pageCount
   page-count = omega (arith, a .most)
 
+  -- the pages with tag t
+  pub pages-by : (t : ℕ) → pagesOf p t ≡ sumOf (λ j. bit (eqb (ownerAt p j) t)) (upTo (p .made))
+  unfolding pagesOf pagesIn ownerAt pageCount
+  pages-by t = ap (λ n. countOf (λ j. eqb (ownerAt p j) t) (upTo n)) page-count
+
   pub right-length : wrongLength p words ≡ false
   unfolding wrongLength wrongLengthIn
   right-length = rw (ne-eqb (p .made) 0 (λ e. omega (arith, a .some)), eq-eqb words (64 * p .made) (a .whole))
+
+-- who holds each page, how many pages each region holds and how many are free, and which of these is the lowest
+module _ {L : Model} {sp : List ℕ} {g : Regions} {p : Pages} {words : ℕ} (b : RegionsAgree L sp g) (a : PagesAgree L g p words) where
+  pub owner-for : (j : ℕ) → j < p .made → let r = getD (L .holders) j 0 in Named L r × (ownerAt p j ≡ tagFor g r)
+  owner-for j h = go (a .owned j h)
+    where
+      go : Owned L g p j → let r = getD (L .holders) j 0 in Named L r × (ownerAt p j ≡ tagFor g r)
+      go (inl (z, e)) = (rw z, e ∙ ap (tagFor g) (sym z))
+      go (inr (l, e)) = (live-for b (getD (L .holders) j 0) l, e ∙ sym (tag-for b (getD (L .holders) j 0) l))
+
+  holds-is : (r j : ℕ) → Named L r → j < p .made → eqb (ownerAt p j) (tagFor g r) ≡ eqb (getD (L .holders) j 0) r
+  holds-is r j k h = let o = owner-for j h in ap (λ t. eqb t (tagFor g r)) (o .1) ∙ for-same b (getD (L .holders) j 0) r (o .0) k
+
+  pages-are : (r : ℕ) → Named L r → pagesOf p (tagFor g r) ≡ heldBy L r
+  pages-are r k =
+      pages-by a (tagFor g r)
+      ∙ sum-below _ (λ j. bit (eqb (getD (L .holders) j 0) r)) (p .made) (λ j h. ap bit (holds-is r j k h))
+      ∙ ap (λ n. sumOf (λ j. bit (eqb (getD (L .holders) j 0) r)) (upTo n)) (sym (a .listed))
+      ∙ sum-places (λ x. bit (eqb x r)) (L .holders) 0
+
+  pub free-are : pagesOf p 0 ≡ heldBy L 0
+  free-are = pages-are 0 refl
+
+  pub held-are : (r : ℕ) → livesIn L r ≡ true → pagesOf p (tagOf g r) ≡ heldBy L r
+  held-are r l = ap (pagesOf p) (sym (tag-for b r l)) ∙ pages-are r (live-for b r l)
+
+  pub lowest-is : firstFree p ≡ lowestFree (L .holders)
+  unfolding firstFree firstFreeIn lowestFree pageCount ownerAt
+  lowest-is = rw (page-count a, a .listed) (find-same _ _ (p .made) (upTo (p .made)) (all-upTo _ (p .made) (λ j h. holds-is 0 j refl h)))
 
 -- ---- pointers
 
@@ -123,6 +159,15 @@ module _ {L : Model} {sp : List ℕ} {ids : ℕ → List ℕ} {g : Regions} {p :
       → wordAt heap (spot sp q) w ≡ imageOf sp (getD (marks (L .kinds) ((object (L .objects) q) .kind)) w 0) (getD (wordsIn L q) w 0)
   unfolding wordAt
   word-is q w l h = a .laid q l .words w h
+
+  -- where it lies: of null, page 256 and word 0
+  pub page-is : (q : ℕ) → Known L q → pageOf (spot sp q) ≡ (object (L .objects) q) .page
+  unfolding pageOf
+  page-is q k = by-known L q k (λ e. rw e) (λ l. rw (ne-eqb (spot sp q) 0 (spot-some q l)) (a .laid q l .page))
+
+  pub word-of : (q : ℕ) → Known L q → wordOf (spot sp q) ≡ (object (L .objects) q) .word
+  unfolding wordOf
+  word-of q k = by-known L q k (λ e. rw e) (λ l. rw (ne-eqb (spot sp q) 0 (spot-some q l)) (a .laid q l .word))
 
   module _ {k : Kinds} (b : KindsAgree (L .kinds) k) where
     pub size-is : Valid L → (q : ℕ) → Known L q → wordCount k heap (spot sp q) ≡ length (wordsIn L q)

@@ -14,9 +14,9 @@ use Rattle.lists.specs.Laws.All.{all-map}
 use Rattle.lists.specs.Laws.Finds.{every-same}
 use Rattle.lists.specs.Laws.Kept.{repeats-once}
 use Rattle.lists.specs.Laws.UpTo.{all-upTo, every-places}
-use Rattle.model.specs.Model.{Model, Call, declare, newRegion, subregion, push, dropFrame, handBack, allocate, first, copy, fetch, clear, load, setPointer, put, get, view, same, about, report, totals, audit, delete, deleteAll}
-use Rattle.model.specs.Model.{region, livesIn, homeIn, parentIn, top, beneath, slot, inSlot, slotMarks, markAt, above, allowed, inFrames, stored, outside, subregions, closed, outsideBut}
-use Rattle.model.specs.Calls.{wrongNames, checks, refusal, lacks, noFrame, oneFrame, null, noWord, dead, size, fits}
+use Rattle.model.specs.Model.{Model, Call, declare, newRegion, subregion, push, dropFrame, handBack, allocate, first, copy, fetch, clear, load, setPointer, put, get, view, same, about, report, totals, audit, delete, deleteAll, Query, locate, ask}
+use Rattle.model.specs.Model.{region, livesIn, homeIn, parentIn, heldBy, top, beneath, slot, inSlot, slotMarks, markAt, above, allowed, inFrames, stored, outside, subregions, closed, outsideBut}
+use Rattle.model.specs.Calls.{wrongNames, checks, queryChecks, refusal, lacks, noFrame, oneFrame, null, noWord, dead, size, fits}
 use Rattle.model.specs.Valid.{Valid}
 use Rattle.model.specs.Laws.Passed.{step, names-agree}
 use Rattle.model.specs.Laws.Slots.{slot-lives}
@@ -25,11 +25,11 @@ use Rattle.kinds.specs.Kinds.{sizeOf, markAt as kindMark, wrongMarks, allData a
 use Rattle.regions.specs.Regions.{countAt, nameOf, entryOf, tagOf, newestAt, aboveIn, allowsIn}
 use Rattle.pages.specs.Pages.{takenAt, ownerOf}
 use Rattle.outcomes.specs.Store.{Store, frames, kinds, regions, pages, slot as storeSlot, ledInto, breaks, roomy, size as storeSize, breaksIn, roomyIn}
-use Rattle.outcomes.specs.Outcome.{checks as storeChecks, refusal as storeRefusal, badLength, noFrame as storeNoFrame, oneFrame as storeOneFrame, lacks as storeLacks, lacksBeneath, dead as storeDead, full, namesOut, noWord as storeNoWord, isData, allData}
+use Rattle.outcomes.specs.Outcome.{checks as storeChecks, queryChecks as storeQueryChecks, refusal as storeRefusal, badLength, noFrame as storeNoFrame, oneFrame as storeOneFrame, lacks as storeLacks, lacksBeneath, dead as storeDead, full, namesOut, noWord as storeNoWord, isData, allData}
 use Rattle.refinement.specs.Represents.{Represents, RoomAgrees, spot}
 use Rattle.refinement.specs.Laws.Tags.{live-is, live-count, above-is, subregions-are}
 use Rattle.refinement.specs.Laws.Together.{closed-is, look-is, either-not, pointed-is}
-use Rattle.refinement.specs.Laws.Reads.{top-width, beneath-width, kind-count, right-length, top-known, slot-is, spot-zero, kind-is, size-is, mark-is, owner-name}
+use Rattle.refinement.specs.Laws.Reads.{top-width, beneath-width, kind-count, right-length, top-known, slot-is, spot-zero, kind-is, size-is, mark-is, owner-name, free-are}
 
 -- the last tests agree
 end : (a b : Bool) (n : ℕ) → a ≡ b → pick a n 0 ≡ pick b n 0
@@ -117,7 +117,7 @@ module _ {L : Model} {sp : List ℕ} {ids : ℕ → List ℕ} {S : Store} (v : V
   unfolding roomy takenAt roomyIn
   roomy-is r n l k = go (newestAt (regions S) (entryOf (regions S) r)) (h .onPages .room r l)
     where
-      go : (j : ℕ) → RoomAgrees ((region (L .regions) r) .room) (pages S) (tagOf (regions S) r) j
+      go : (j : ℕ) → RoomAgrees (region (L .regions) r) (pages S) (tagOf (regions S) r) j
           → not (eqb j 0 || leb 65 (takenAt (pages S) (j - 1) + n)) ≡ leb n ((region (L .regions) r) .room)
       go zero a = sym (lt-leb n ((region (L .regions) r) .room) (omega arith))
       go (suc j) a =
@@ -152,6 +152,11 @@ module _ {L : Model} {sp : List ℕ} {ids : ℕ → List ℕ} {S : Store} (v : V
   unfolding storeRefusal storeChecks refusal checks
   get-agrees s w = rw right (slot-6-9 s (λ k. word-14-15 s w k (λ n o. end _ (not (eqb (markAt L s w) 0)) 16 (ap not (data-is s k w o)))))
 
+  -- calls that only ask
+  query-agrees : (q : Query) → storeRefusal S (ask q) ≡ refusal L (ask q)
+  unfolding storeRefusal storeChecks storeQueryChecks refusal checks queryChecks
+  query-agrees (locate s) = rw right (slot-6-9 s (λ k. refl))
+
   -- small counts: a joint delete tests a count that some words have left
   module _ (small : (q : ℕ) → outside L q ≤ 16640) where
     pub refusals-agree : (c : Call) → storeRefusal S c ≡ refusal L c
@@ -166,8 +171,8 @@ module _ {L : Model} {sp : List ℕ} {ids : ℕ → List ℕ} {S : Store} (v : V
         (λ n. end _ (lacks (top L) s || lacks (beneath L) b) 9 (ap₂ _||_ (lacks-is (two-frames n) s) (lacks-beneath n b))))
     refusals-agree (allocate s r k) = rw right (slot-6-9 s (λ m. step _ (dead L r) 2 _ _ (dead-is r) (λ l.
         step _ (eqb k 0 || ltb (length (L .kinds)) k) 12 _ _ (ap (λ n. eqb k 0 || ltb n k) (kind-count (h .onKinds) (v .kinds .many))) (λ n.
-        end _ (not (fits (region (L .regions) r) (size L k)) && eqb (L .free) 0) 13
-        (ap₂ (λ a b. not a && eqb b 0) (ap (roomy S (entryOf (regions S) r)) (size-same k) ∙ roomy-is r (size L k) (not-false (livesIn L r) l) (omega arith)) (h .onPages .free))))))
+        end _ (not (fits (region (L .regions) r) (size L k)) && eqb (heldBy L 0) 0) 13
+        (ap₂ (λ a b. not a && eqb b 0) (ap (roomy S (entryOf (regions S) r)) (size-same k) ∙ roomy-is r (size L k) (not-false (livesIn L r) l) (omega arith)) (free-are (h .onRegions) (h .onPages)))))))
     refusals-agree (first s r) = rw right (slot-6-9 s (λ k. end _ (dead L r) 2 (dead-is r)))
     refusals-agree (copy s t) = rw right (slots-6-9 s t (λ k m. refl))
     refusals-agree (fetch b s) = rw right (step _ (oneFrame L) 6 _ _ one-frame
@@ -192,3 +197,4 @@ module _ {L : Model} {sp : List ℕ} {ids : ℕ → List ℕ} {S : Store} (v : V
         let once = repeats-once rs (neither (eqb (length rs) 0 || ltb 16 (length rs)) (repeats rs) w .1) in
         step _ (not (closed (L .regions) rs)) 18 _ _ (ap not (closed-is v (h .onRegions) rs ls)) (λ c.
         end _ (anyOf (λ r. not (eqb (outsideBut L rs r) 0)) rs) 19 (pointed-is v h small rs ls once)))))
+    refusals-agree (ask q) = query-agrees q

@@ -7,7 +7,7 @@ use mathlib.Core.List.{List, [], _∷_}
 use Prim.Native.Nat.{ℕ, suc, _+_, _≤_, _<_}
 use native.Mathlib.Omega.{arith}
 use lib.Dec.{eqb}
-use lib.ListN.{length}
+use lib.ListN.{length, getD}
 use lib.Seq.{take-length}
 use borrow.Author.Tests.{eqb-true, eq-eqb, not-false}
 use Rattle.lists.specs.Lists.{bit, pick, sumOf, sumOf₂, countOf, All, upTo}
@@ -30,6 +30,7 @@ use Rattle.outcomes.specs.Store.{Store, kinds, regions, pages, outsideOf}
 use Rattle.outcomes.specs.Outcome.{Accepted}
 use Rattle.refinement.specs.Represents.{spot, Alive, wordsIn, idsIn, tagFor, KindsAgree, RegionsAgree, PagesAgree, ObjectsAgree, Represents, Owned}
 use Rattle.refinement.specs.Laws.Tags.{Named, zero-dead, live-for, tag-for, for-same, subregions-are}
+use Rattle.refinement.specs.Laws.Reads.{held-are}
 use Rattle.refinement.specs.Laws.Counts.{leads-into, slots-beyond}
 use Rattle.refinement.specs.Laws.Walks.{marksIn, free-words-on, homes-on}
 
@@ -56,7 +57,7 @@ ids-objects L f = sum-part f (noObject ∷ L .objects) noObject 1 (length (L .ob
 
 module _ (L : Model) (sp : List ℕ) (ids : ℕ → List ℕ) (g : Regions) (p : Pages) (heap : List ℕ) (v : Valid L) (onRegions : RegionsAgree L sp g) (onPages : PagesAgree L g p (length heap)) (onObjects : ObjectsAgree L sp ids g p heap) where
   -- whatever is added up over all held pages comes to the same over the pages of each live region
-  pub held-pages : (c : ℕ → ℕ) → sumOf (λ j. pick (eqb (ownerAt p j) 0) 0 (c j)) (upTo (p .made)) ≡ sumOf (λ x. sumOf (λ j. pick (eqb (ownerAt p j) (tagOf g (x .name))) (c j) 0) (upTo (p .made))) (L .regions)
+  held-pages : (c : ℕ → ℕ) → sumOf (λ j. pick (eqb (ownerAt p j) 0) 0 (c j)) (upTo (p .made)) ≡ sumOf (λ x. sumOf (λ j. pick (eqb (ownerAt p j) (tagOf g (x .name))) (c j) 0) (upTo (p .made))) (L .regions)
   held-pages c = sum-below _ _ (p .made) (λ j h. page j (onPages .owned j h)) ∙ sum-swap (λ j x. pick (eqb (ownerAt p j) (tagOf g (x .name))) (c j) 0) (upTo (p .made)) (L .regions)
     where
       lives : (r : ℕ) → Named L r → (n : ℕ) → pick (eqb r 0) 0 n ≡ pick (livesIn L r) n 0
@@ -71,8 +72,8 @@ module _ (L : Model) (sp : List ℕ) (ids : ℕ → List ℕ) (g : Regions) (p :
           each x l = ap (λ b. pick b n 0) (sym (for-same onRegions r (x .name) k (live-for onRegions (x .name) l)) ∙ ap (eqb (tagFor g r)) (tag-for onRegions (x .name) l))
 
       page : (j : ℕ) → Owned L g p j → pick (eqb (ownerAt p j) 0) 0 (c j) ≡ sumOf (λ x. pick (eqb (ownerAt p j) (tagOf g (x .name))) (c j) 0) (L .regions)
-      page j (inl e) = rw e (owner 0 refl (c j))
-      page j (inr (r, l, e)) = rw (e, ← (tag-for onRegions r l)) (owner r (live-for onRegions r l) (c j))
+      page j (inl (z, e)) = rw e (owner 0 refl (c j))
+      page j (inr (l, e)) = let r = getD (L .holders) j 0 in rw (e, ← (tag-for onRegions r l)) (owner r (live-for onRegions r l) (c j))
 
   -- whatever is added up over the objects of all held pages comes to the same over the objects of live regions
   pub held-objects : (f : ℕ → ℕ) → sumOf (λ j. pick (eqb (ownerAt p j) 0) 0 (sumOf f (ids j))) (upTo (p .made)) ≡ sumOf (λ q. pick (livesIn L (homeIn L q)) (f q) 0) (idsIn L)
@@ -112,4 +113,4 @@ pub report-step : (L : Model) (sp : List ℕ) (ids : ℕ → List ℕ) (S : Stor
 unfolding checks Accepted reply accepted
 report-step L sp ids S v h a T r small e (x, y) =
     let l = not-false (livesIn L r) (passed L (report r) e .0) in
-    (x ∙ rw (h .counts r l, outside-is S v h r l (small r), h .onPages .held r l, subregions-are (h .onRegions) v r l), rw y h)
+    (x ∙ rw (h .counts r l, outside-is S v h r l (small r), held-are (h .onRegions) (h .onPages) r l, subregions-are (h .onRegions) v r l), rw y h)

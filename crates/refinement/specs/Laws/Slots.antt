@@ -1,4 +1,4 @@
--- The calls that fill a slot of the top frame (first, copy, fetch, clear, load), and those that only read (get, view, same, about, totals):
+-- The calls that fill a slot of the top frame (first, copy, fetch, clear, load), and those that only read (get, view, same, about, totals, locate):
 -- what the store leaves represents what the model leaves, and the answers are the same.
 -- Assumes nothing.
 use mathlib.Core.Path.{_≡_, refl, sym, ap, _∙_}
@@ -15,8 +15,8 @@ use Rattle.lists.specs.Lists.{every, All}
 use Rattle.lists.specs.Laws.Tests.{neither, by-same, eqb-sym}
 use Rattle.lists.specs.Laws.All.{all-in}
 use Rattle.lists.specs.Laws.Finds.{every-true}
-use Rattle.model.specs.Model.{Model, Answer, region, livesIn, topPlace, top, beneath, slot, inSlot, slotMarks, markAt, gives, four, first, copy, fetch, clear, load, get, view, same, about, totals}
-use Rattle.model.specs.Calls.{checks, refusal, reply, accepted, fillSlot, lacks, null, noWord}
+use Rattle.model.specs.Model.{Model, Answer, region, livesIn, topPlace, top, beneath, slot, inSlot, slotMarks, markAt, gives, four, first, copy, fetch, clear, load, get, view, same, about, totals, Query, locate, ask}
+use Rattle.model.specs.Calls.{checks, queryChecks, refusal, reply, queryReply, accepted, fillSlot, lacks, null, noWord}
 use Rattle.model.specs.Valid.{Valid}
 use Rattle.model.specs.Laws.Passed.{passed}
 use Rattle.model.specs.Laws.Slots.{slot-lives}
@@ -27,10 +27,10 @@ use Rattle.regions.specs.Laws.Recount.{beside-same}
 use Rattle.objects.specs.Objects.{wordAt, wordCount}
 use Rattle.outcomes.specs.Store.{Store, frames, kinds, regions, slot as storeSlot}
 use Rattle.outcomes.specs.Shape.{Sized}
-use Rattle.outcomes.specs.Outcome.{Accepted, fillSlot as storeFill}
+use Rattle.outcomes.specs.Outcome.{Accepted, queryReply as storeReply, fillSlot as storeFill}
 use Rattle.refinement.specs.Represents.{spot, imageOf, FramesAgree, Represents}
 use Rattle.refinement.specs.Laws.Tags.{live-count}
-use Rattle.refinement.specs.Laws.Reads.{frame-in, frame-small, top-frame, top-known, slot-is, beneath-slot, sized-known, spot-same, word-is, size-is, kind-is, owner-name}
+use Rattle.refinement.specs.Laws.Reads.{frame-in, frame-small, top-frame, top-known, slot-is, beneath-slot, sized-known, spot-same, word-is, size-is, kind-is, owner-name, free-are, page-is, word-of}
 use Rattle.refinement.specs.Laws.Kept.{framed}
 
 -- ---- a slot is filled
@@ -166,6 +166,15 @@ module _ (L : Model) (sp : List ℕ) (ids : ℕ → List ℕ) (S : Store) (v : V
     about-step s e x =
         (x .0 ∙ rw (slot-is h s (passed L (about s) e .1 .0), owner-name (h .onObjects) (h .onRegions) (slot L s) (top-known v s), kind-is (h .onObjects) (slot L s) (top-known v s)), rw (x .1) h)
 
+    -- calls that only ask
+    query-is : (q : Query) → refusal L (ask q) ≡ 0 → storeReply S q ≡ queryReply L q
+    unfolding storeReply queryReply checks queryChecks
+    query-is (locate s) e = rw (slot-is h s (passed L (ask (locate s)) e .1 .0), page-is (h .onObjects) (slot L s) (top-known v s), word-of (h .onObjects) (slot L s) (top-known v s))
+
+    pub ask-step : (q : Query) → refusal L (ask q) ≡ 0 → Accepted (ask q) S a T → (a ≡ reply L (ask q)) × Represents (accepted L (ask q)) sp ids T
+    unfolding Accepted reply accepted
+    ask-step q e x = (x .0 ∙ query-is q e, rw (x .1) h)
+
     pub totals-step : Accepted totals S a T → (a ≡ reply L totals) × Represents (accepted L totals) sp ids T
     unfolding Accepted reply accepted
-    totals-step x = (x .0 ∙ rw (h .onPages .free, live-count (h .onRegions), h .onFrames .standing, h .onFrames .counted), rw (x .1) h)
+    totals-step x = (x .0 ∙ rw (free-are (h .onRegions) (h .onPages), live-count (h .onRegions), h .onFrames .standing, h .onFrames .counted), rw (x .1) h)

@@ -10,12 +10,12 @@ use native.Mathlib.Omega.{arith}
 use lib.Dec.{eqb, ltb}
 use lib.ListN.{length}
 use borrow.Author.Tests.{eqb-true, eqb-false, eq-eqb, ne-eqb, lt-ltb}
-use Rattle.lists.specs.Lists.{bit, pick, anyOf, sumOf, countOf, All, upTo, times, among}
+use Rattle.lists.specs.Lists.{bit, pick, anyOf, sumOf, countOf, All, upTo, among}
 use Rattle.lists.specs.Laws.Tests.{by-test, by-same}
 use Rattle.lists.specs.Laws.All.{all-map, all-both, all-change}
 use Rattle.lists.specs.Laws.Sums.{sum-same, sum-ones, sum-pick}
 use Rattle.lists.specs.Laws.Finds.{any-map, any-same, false-any, any-count, find-none, all-find}
-use Rattle.lists.specs.Laws.Kept.{all-each, among-self, all-among, map-once}
+use Rattle.lists.specs.Laws.Kept.{all-each, among-self, all-among}
 use Rattle.lists.specs.Laws.UpTo.{any-one, one-passes, sum-below}
 use Rattle.model.specs.Model.{Model, noRegion, called, region, livesIn, parentIn, subregions, climb, above}
 use Rattle.model.specs.Valid.{Valid}
@@ -115,9 +115,6 @@ module _ {L : Model} {sp : List ℕ} {g : Regions} (a : RegionsAgree L sp g) whe
 
     pub zero-tag : among 0 (map (tagOf g) rs) ≡ false
     zero-tag = any-map (λ t. eqb t 0) (tagOf g) rs ∙ false-any _ rs (all-each _ (λ r. ne-eqb (tagOf g r) 0 (tag-some g r)) rs)
-
-    pub tags-once : ((q : ℕ) → times q rs ≤ 1) → (t : ℕ) → times t (map (tagOf g) rs) ≤ 1
-    tags-once once = map-once (tagOf g) (nameOf g) rs (all-map tag-name rs ls) once
 
     -- an entry of one of them has its name
     pub name-among : (i : ℕ) → among i (map (entryOf g) rs) ≡ true → among (nameAt g i) rs ≡ true

@@ -54,6 +54,8 @@ laid-kept : (heap sp ms : List ℕ) (q : ℕ) (o : Object) (i x : ℕ) → (spot
     → Laid (set heap i x) sp ms q o
 laid-kept heap sp ms q o i x a l = record {
   placed = l .placed;
+  page = l .page;
+  word = l .word;
   inside = simp length-set (l .inside);
   header = rw (getD-set-other heap i (spot sp q - 1) x 0 (a .0)) (l .header);
   words = λ j k. rw (getD-set-other heap i (spot sp q + j) x 0 (a .1 j k)) (l .words j k);
@@ -64,6 +66,8 @@ laid-set : (heap sp ms : List ℕ) (q : ℕ) (o : Object) (w x : ℕ) → w < le
     → Laid (set heap (spot sp q + w) (imageOf sp (getD ms w 0) x)) sp ms q (withWord o w x)
 laid-set heap sp ms q o w x h l = record {
   placed = l .placed;
+  page = l .page;
+  word = l .word;
   inside = simp length-set (l .inside);
   header = rw (getD-set-other heap (spot sp q + w) (spot sp q - 1) (imageOf sp (getD ms w 0) x) 0 (λ e. omega (arith, l .placed))) (l .header);
   words = λ j k. go j (rw length-set at k) (by-same j w);

@@ -42,8 +42,9 @@ table =
     ∷ opens "push 2" 255 [] ∷ says "push 2" 5 (2 ∷ []) ∷ says "push" 255 [] ∷ says "push 2 2" 255 [] ∷ says "pushed 2" 255 [] ∷ says "push 2x" 255 []
     ∷ says "set_pointer 0 0 1" 14 (0 ∷ 0 ∷ 1 ∷ []) ∷ says "14 0 0 1" 14 (0 ∷ 0 ∷ 1 ∷ []) ∷ says "\tset_pointer  0\t0 01#back\r" 14 (0 ∷ 0 ∷ 1 ∷ [])
     ∷ says "put 0 1 4294967295" 15 (0 ∷ 1 ∷ 4294967295 ∷ []) ∷ says "put 0 1 4294967296" 255 [] ∷ says "put 0 1 42949672950" 255 []
-    ∷ says "1 2" 255 [] ∷ says "25 2" 255 [] ∷ says "23 2" 23 (2 ∷ []) ∷ says "declare" 2 [] ∷ says "declare 1 0" 2 (1 ∷ 0 ∷ [])
+    ∷ says "1 2" 255 [] ∷ says "26 2" 255 [] ∷ says "23 2" 23 (2 ∷ []) ∷ says "declare" 2 [] ∷ says "declare 1 0" 2 (1 ∷ 0 ∷ [])
     ∷ says "delete_all 3 4 5" 24 (3 ∷ 4 ∷ 5 ∷ []) ∷ says "24 2" 24 (2 ∷ []) ∷ says "delete_all" 24 [] ∷ says "delete_all 3 x" 255 []
+    ∷ says "locate 0" 25 (0 ∷ []) ∷ says "25 3" 25 (3 ∷ []) ∷ says "locate" 255 [] ∷ says "locate 0 1" 255 []
     ∷ record { text = sevens 2 64; made = true; call = 2; args = replicate 64 7 } ∷ record { text = sevens 2 65; made = true; call = 255; args = [] } ∷ []
 
 all-right : every right table ≡ true
