@@ -1,4 +1,4 @@
-// The cases of document 02's cards on the store: the rows of `further` in the model from `threeLevels` on.
+// The cases of document 02's cards 1 and 2 on the store: the rows of `further` in the model from `threeLevels` to `allOthers`.
 // For each, make with its line, and then the row's calls, with the lines that the row prints.
 use state::State;
 use trials::ALLOCATE;
@@ -9,7 +9,6 @@ use trials::DELETE_ALL;
 use trials::DROP;
 use trials::FIRST;
 use trials::LOAD;
-use trials::LOCATE;
 use trials::NEW_REGION;
 use trials::PUSH;
 use trials::REPORT;
@@ -365,138 +364,6 @@ fn all_others() {
     );
 }
 
-// Regions 2, 3 and 4 on pages 0, 1 and 2, with a second object of region 2.
-fn three_regions(heap: &mut [u32]) -> State {
-    let s = with_kind(heap, &[0u32; 15]);
-    plays(
-        s,
-        heap,
-        3,
-        11,
-        &[
-            [PUSH, 6, 0, 0],
-            [NEW_REGION, 0, 0, 0],
-            [NEW_REGION, 0, 0, 0],
-            [NEW_REGION, 0, 0, 0],
-            [ALLOCATE, 0, 2, 1],
-            [ALLOCATE, 1, 3, 1],
-            [ALLOCATE, 2, 2, 1],
-            [ALLOCATE, 3, 4, 1],
-        ],
-    )
-}
-
-// Where objects lie, and what locate tells of null; pages that are free again are taken, lowest first (document 02, card 4). Row `lowestAgain`.
-fn lowest_again() {
-    let mut heap = [0u32; 320];
-    let s = three_regions(&mut heap);
-    plays(
-        s,
-        &mut heap,
-        11,
-        11,
-        &[
-            [LOCATE, 0, 0, 0],
-            [LOCATE, 1, 0, 0],
-            [LOCATE, 2, 0, 0],
-            [LOCATE, 3, 0, 0],
-            [LOCATE, 4, 0, 0],
-            [CLEAR, 1, 0, 0],
-            [DELETE, 3, 0, 0],
-            [LOCATE, 3, 0, 0],
-            [ALLOCATE, 1, 4, 1],
-            [LOCATE, 1, 0, 0],
-            [NEW_REGION, 0, 0, 0],
-            [ALLOCATE, 4, 5, 1],
-            [LOCATE, 4, 0, 0],
-            [ALLOCATE, 5, 1, 1],
-            [LOCATE, 5, 0, 0],
-            [CLEAR, 0, 0, 0],
-            [CLEAR, 2, 0, 0],
-            [DELETE, 2, 0, 0],
-            [NEW_REGION, 0, 0, 0],
-            [ALLOCATE, 0, 6, 1],
-            [LOCATE, 0, 0, 0],
-            [TOTALS, 0, 0, 0],
-            [AUDIT, 0, 0, 0],
-        ],
-    );
-}
-
-// A page that is full: the next object goes to the lowest free page, below it. A slot that is not there, and no frame. Row `pageFull`.
-fn page_full() {
-    let mut heap = [0u32; 256];
-    let s = with_kind(&mut heap, &[0u32; 15]);
-    plays(
-        s,
-        &mut heap,
-        3,
-        11,
-        &[
-            [PUSH, 5, 0, 0],
-            [NEW_REGION, 0, 0, 0],
-            [NEW_REGION, 0, 0, 0],
-            [ALLOCATE, 0, 2, 1],
-            [ALLOCATE, 1, 3, 1],
-            [ALLOCATE, 1, 3, 1],
-            [ALLOCATE, 1, 3, 1],
-            [ALLOCATE, 1, 3, 1],
-            [LOCATE, 1, 0, 0],
-            [CLEAR, 0, 0, 0],
-            [DELETE, 2, 0, 0],
-            [LOCATE, 0, 0, 0],
-            [ALLOCATE, 2, 3, 1],
-            [LOCATE, 2, 0, 0],
-            [ALLOCATE, 3, 3, 1],
-            [LOCATE, 3, 0, 0],
-            [LOCATE, 1, 0, 0],
-            [LOCATE, 5, 0, 0],
-            [DROP, 0, 0, 0],
-            [LOCATE, 0, 0, 0],
-            [AUDIT, 0, 0, 0],
-        ],
-    );
-}
-
-// The holes that a joint delete leaves, taken lowest first. Row `holesFilled`.
-fn holes_filled() {
-    let mut heap = [0u32; 320];
-    let s = with_kind(&mut heap, &[0u32]);
-    plays(
-        s,
-        &mut heap,
-        3,
-        13,
-        &[
-            [PUSH, 8, 0, 0],
-            [NEW_REGION, 0, 0, 0],
-            [NEW_REGION, 0, 0, 0],
-            [NEW_REGION, 0, 0, 0],
-            [ALLOCATE, 0, 2, 1],
-            [ALLOCATE, 1, 3, 1],
-            [ALLOCATE, 2, 4, 1],
-            [ALLOCATE, 3, 1, 1],
-            [CLEAR, 0, 0, 0],
-            [CLEAR, 2, 0, 0],
-            [DELETE_ALL, 4, 2, 0],
-            [NEW_REGION, 0, 0, 0],
-            [ALLOCATE, 4, 5, 1],
-            [LOCATE, 4, 0, 0],
-            [NEW_REGION, 0, 0, 0],
-            [ALLOCATE, 5, 6, 1],
-            [LOCATE, 5, 0, 0],
-            [NEW_REGION, 0, 0, 0],
-            [ALLOCATE, 6, 7, 1],
-            [LOCATE, 6, 0, 0],
-            [NEW_REGION, 0, 0, 0],
-            [ALLOCATE, 7, 8, 1],
-            [LOCATE, 7, 0, 0],
-            [LOCATE, 3, 0, 0],
-            [AUDIT, 0, 0, 0],
-        ],
-    );
-}
-
 fn main() {
     three_levels();
     sixteen_levels();
@@ -507,7 +374,4 @@ fn main() {
     name_lists();
     m_once();
     all_others();
-    lowest_again();
-    page_full();
-    holes_filled();
 }

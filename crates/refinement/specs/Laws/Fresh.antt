@@ -103,15 +103,16 @@ make-pages w e =
     (omega arith, omega arith, omega arith)
 
 module _ (heap : List ℕ) (a : Answer) (T : Store) (ok : makes (length heap) ≡ true) (o : MakeOutcome heap a T) where
-  left : (a ≡ gives []) × (T ≡ store (blank (length heap / 64) 1) (replicate (64 * (length heap / 64)) 0))
+  -- its answer, and a store that the heap's length fixes
+  pub make-leaves : (a ≡ gives []) × (T ≡ store (blank (length heap / 64) 1) (replicate (64 * (length heap / 64)) 0))
   unfolding MakeOutcome
-  left = rw (make-pages (length heap) ok .2) (rw ok at o)
+  make-leaves = rw (make-pages (length heap) ok .2) (rw ok at o)
 
   pub make-answers : a ≡ gives []
-  make-answers = left .0
+  make-answers = make-leaves .0
 
   pub make-represents : Represents (fresh (length heap / 64)) [] (λ j. []) T
-  make-represents = let m = make-pages (length heap) ok in rw (left .1) (fresh-represents (length heap / 64) (m .0) (m .1))
+  make-represents = let m = make-pages (length heap) ok in rw (make-leaves .1) (fresh-represents (length heap / 64) (m .0) (m .1))
 
   pub make-sized : Sized T
-  make-sized = rw (left .1) (blank-sized (length heap / 64) 1 (replicate (64 * (length heap / 64)) 0))
+  make-sized = rw (make-leaves .1) (blank-sized (length heap / 64) 1 (replicate (64 * (length heap / 64)) 0))

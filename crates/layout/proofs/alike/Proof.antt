@@ -8,8 +8,8 @@ use borrow.Author.Count.{below-none, below-more}
 use borrow.Author.Needs.{needs}
 use borrow.Author.Tests.{eq-eqb, ne-eqb}
 use Rattle.lists.specs.Laws.UpTo.{find-first, find-default}
-use Rattle.twins.proofs.alike.Statement.{statement}
-use Rattle.twins.proofs.alike.Tie as tie
+use Rattle.layout.proofs.alike.Statement.{statement}
+use Rattle.layout.proofs.alike.Tie as tie
 
 -- the words passed are the same
 abbrev Inv-loop : tie.InvT-loop
