@@ -119,7 +119,7 @@ pub extern "C" fn bench_changing(
             11 => store::fetch(s, heap, 0, 0),
             12 => store::clear(s, heap, 0),
             13 => store::load(s, heap, 0, 0, 5),
-            14 => store::set_pointer(s, heap, 0, 0, 1 + i % 2),
+            14 => store::set_pointer(s, heap, 0, 0, 1 + i % 2, 0),
             _ => store::call(s, heap, which % 100, 0, 0, 0, 0, &none),
         };
         s = d.state;
@@ -151,22 +151,22 @@ pub extern "C" fn bench_pairs(
             3 => {
                 let e = store::new_region(s, heap);
                 sum = refused(sum, e.reply);
-                store::delete(e.state, heap, e.reply.a)
+                store::delete(e.state, heap, e.reply.a, 0)
             }
             4 => {
                 let e = store::subregion(s, heap, 2);
                 sum = refused(sum, e.reply);
-                store::delete(e.state, heap, e.reply.a)
+                store::delete(e.state, heap, e.reply.a, 0)
             }
             6 => {
                 let e = store::push(s, heap, 8);
                 sum = refused(sum, e.reply);
-                store::drop(e.state, heap)
+                store::drop(e.state, heap, 0)
             }
             _ => {
                 let e = store::push(s, heap, 8);
                 sum = refused(sum, e.reply);
-                store::hand_back(e.state, heap, 0, 5)
+                store::hand_back(e.state, heap, 0, 5, 0)
             }
         };
         s = d.state;
@@ -248,7 +248,7 @@ pub extern "C" fn bench_again(
                 sum = noted(sum, d.reply);
             }
             _ => {
-                let d = store::delete(s, heap, 5);
+                let d = store::delete(s, heap, 5, 0);
                 t = d.state;
                 sum = noted(sum, d.reply);
             }
@@ -263,7 +263,7 @@ fn one_by_one(s: State, heap: &[u32], list: &[u32]) -> Done {
     let mut sum: u32 = 0;
     let mut i: usize = 0;
     while i < list.len() {
-        let d = store::delete(t, heap, list[i]);
+        let d = store::delete(t, heap, list[i], 0);
         i += 1;
         t = d.state;
         sum = noted(sum, d.reply);
@@ -302,7 +302,7 @@ pub extern "C" fn bench_deletes(
     while i < n {
         i += 1;
         let d = match which {
-            24 => store::delete_all(s, heap, &list),
+            24 => store::delete_all(s, heap, &list, 0),
             _ => one_by_one(s, heap, &list),
         };
         t = d.state;

@@ -29,7 +29,7 @@ passesIn heads cs heap declared sizes marks standing counted widths slots given 
     && heapFits heads declared sizes marks heap names parents levels newest oldest made owners taken standing widths slots
     && countsFit names cs (kindsWith declared sizes marks) heap made owners taken counted widths slots
 
--- of a memory; headers are ticked among as many zeros as a heap has words at most, and pointers leave the counts cs
+-- of a memory; headers are ticked among as many zeros as a heap has words at most, and pointers leave the shares cs
 unfoldable pub passes : List ℕ → State → List ℕ → Bool
 passes cs s heap =
     let f = s .frames in

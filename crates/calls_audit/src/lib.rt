@@ -57,7 +57,7 @@ fn heap_fits<'a>(
 // All tests, each after those that it relies on.
 fn passes<'a>(
     heads: &mut [u8],
-    counts: &mut [u32],
+    shares: &mut [u32],
     heap: &[u32],
     declared: u32,
     sizes: &'a [u8],
@@ -76,7 +76,7 @@ fn passes<'a>(
     owners: &'a [u8],
     taken: &'a [u8],
 ) -> bool
-    ensures { λ r. ⌜ r ≡ passesIn (now (heads .entry)) (now (counts .entry)) (now (heap .entry)) declared (now (sizes .entry)) (now (marks .entry)) standing counted (now (widths .entry)) (now (slots .entry)) given (now (names .entry)) (now (parents .entry)) (now (levels .entry)) (now (newest .entry)) (now (oldest .entry)) made (now (owners .entry)) (now (taken .entry)) ⌝ }
+    ensures { λ r. ⌜ r ≡ passesIn (now (heads .entry)) (now (shares .entry)) (now (heap .entry)) declared (now (sizes .entry)) (now (marks .entry)) standing counted (now (widths .entry)) (now (slots .entry)) given (now (names .entry)) (now (parents .entry)) (now (levels .entry)) (now (newest .entry)) (now (oldest .entry)) made (now (owners .entry)) (now (taken .entry)) ⌝ }
 {
     if !audit_state::state_fits(
         made,
@@ -126,13 +126,13 @@ fn passes<'a>(
         widths,
         slots,
         names,
-        counts,
+        shares,
     )
 }
 
 // Document 01's call 22: 1 for memory that keeps the rules, else 0. The contract says too what demand 3 asks of audited memory beside that, the lengths of the state's arrays; and that the
 // memory is of the language's types where the heap's words are.
-// `state_shaped` does nothing: the types give those lengths, and that stored counts are below 2^32, so that the test of counts modulo 2^32 is one of equality.
+// `state_shaped` does nothing: the types give those lengths, and that shares are below 2^32, so that pointers that leave them one by one leave what they leave together.
 pub fn audit(s: State, heap: &[u32]) -> Reply
     ensures { λ r. ⌜ Outcome audit (store s (now (heap .entry))) (answerOf r []) (store s (now (heap .entry))) × Sized (store s (now (heap .entry))) × (Bits32 (now (heap .entry)) → Shaped (store s (now (heap .entry)))) ⌝ }
 {
@@ -141,7 +141,7 @@ pub fn audit(s: State, heap: &[u32]) -> Reply
     let g = s.regions;
     let p = s.pages;
     let mut heads = [0; 16384];
-    let mut c = g.counts;
+    let mut c = g.shares;
     let sound = passes(
         &mut heads,
         &mut c,

@@ -1,73 +1,81 @@
 -- The tests and the state left are those of the call's outcome.
 -- Assumes nothing.
 use mathlib.Core.Path.{_≡_, refl, sym, ap, _∙_, fun-ext}
-use mathlib.Core.Bool.{Bool}
+use mathlib.Core.Bool.{Bool, not, _||_}
 use mathlib.Core.List.{List, [], _∷_}
-use Prim.Native.Nat.{ℕ, _+_}
+use Prim.Native.Nat.{ℕ, _+_, _<_}
 use native.Mathlib.Omega.{arith}
-use lib.Dec.{eqb}
-use lib.ListN.{length, getD, set, replicate}
+use lib.Dec.{eqb, ltb, leb}
+use lib.ListN.{length, set, replicate}
+use borrow.Author.Tests.{ltb-true, ltb-false, le-leb, lt-leb}
 use Rattle.lists.specs.Ticks.{tickAt, ticked}
+use Rattle.lists.specs.Laws.Tests.{by-test}
 use Rattle.lists.specs.Laws.Ticks.{blank-ticked}
 use Rattle.lists.specs.Lists.{among}
 use Rattle.lists.specs.Laws.Kept.{among-alone, repeats-once}
 use Rattle.model.specs.Model.{Answer, delete, gives}
-use Rattle.model.specs.Calls.{reason}
+use Rattle.model.specs.Calls.{reason, _yields_, noFiller}
 use Rattle.frames.specs.Frames.{raised}
-use Rattle.regions.specs.Regions.{entryIn, entryOf, tagOf, subregionsIn, subregionsOf, countAt, withoutRegions, withCounts}
+use Rattle.regions.specs.Regions.{entryIn, entryOf, tagOf, isLive, subregionsIn, subregionsOf, countIn, countAt, withoutRegions, withShares}
 use Rattle.regions.specs.Laws.Entries.{entry-most}
-use Rattle.regions.specs.Laws.Counts.{Counts}
+use Rattle.regions.specs.Laws.Counts.{Shares}
 use Rattle.regions.specs.Laws.Steps.{enterings}
-use Rattle.pages.specs.Pages.{pagesWith}
+use Rattle.pages.specs.Pages.{wrongLength, pagesWith}
 use Rattle.outcomes.specs.Store.{Store, frames, kinds, regions, pages, ledAmongIn, ledIn, ledInto}
-use Rattle.outcomes.specs.Outcome.{Outcome, Accepted, checks, refusal, newlyIn}
+use Rattle.outcomes.specs.Outcome.{Outcome, Accepted, badLength, dead, checks, refusal, newlyIn}
 use Rattle.outcomes.specs.Apart.{Scans, GivesBack, named}
-use Rattle.outcomes.specs.Laws.Steps.{by-effect}
+use Rattle.outcomes.specs.Laws.Steps.{reason-append, by-effect}
 use Rattle.outcomes.specs.Laws.Deleted.{code-number, code-deleted}
-use Rattle.checks.specs.Checks.{firstRefusal, regionTests}
-use Rattle.checks.specs.Laws.Tests.{one-region}
+use Rattle.checks.specs.Checks.{firstRefusal, fillerTests}
+use Rattle.checks.specs.Laws.Tests.{first-zero, filler-passed}
 use Rattle.delete_parts.specs.Delete.{deleteTests}
 
-module _ (S : Store) (r : ℕ) where
+not-ltb : (a b : ℕ) → not (ltb a b) ≡ leb b a
+not-ltb a b = by-test (ltb a b) (λ e. rw (e, lt-leb b a (ltb-true a b e))) (λ e. rw (e, le-leb b a (ltb-false a b e)))
+
+module _ (S : Store) (r f : ℕ) where
   abbrev entry : ℕ
   entry = entryIn ((regions S) .names) r
 
-  -- the tests that follow those of a live region, with entry e, and with it as the member
+  -- the tests that follow that of the filler, of the region with entry e, and with it as the member
   abbrev tests : ℕ → (ℕ → Bool) → List (Bool × ℕ)
   tests e member =
-      let f = frames S in
+      let fs = frames S in
       let g = regions S in
-      deleteTests r (subregionsIn (g .names) (g .parents) (e + 1)) (getD (g .counts) e 0) (ledAmongIn (f .standing) (f .counted) (f .widths) (f .slots) ((pages S) .owners) member)
+      deleteTests r e (subregionsIn (g .names) (g .parents) (e + 1)) (countIn (g .shares) e) (ledAmongIn (fs .standing) (fs .counted) (fs .widths) (fs .slots) ((pages S) .owners) member)
 
-  delete-refused : refusal S (delete r) ≡ firstRefusal (reason (regionTests ((pages S) .made) (length (S .heap)) entry)) (reason (tests entry (λ t. eqb t (entry + 1))))
-  unfolding refusal checks deleteTests ledInto ledIn entryOf tagOf subregionsOf countAt
-  delete-refused = one-region S (tests entry (λ t. eqb t (entry + 1))) r
+  delete-refused : refusal S (delete r f) ≡ firstRefusal (reason (fillerTests ((pages S) .made) (length (S .heap)) f)) (reason (tests entry (λ t. eqb t (entry + 1))))
+  unfolding refusal checks badLength wrongLength dead isLive fillerTests deleteTests ledInto ledIn entryOf tagOf subregionsOf countAt
+  delete-refused =
+      let rest = eqb r 1 yields 3 ∷ not (eqb (subregionsIn ((regions S) .names) ((regions S) .parents) (entry + 1)) 0) yields 18 ∷ (not (eqb (countIn ((regions S) .shares) entry) 0) || ledInto S (entry + 1)) yields 19 ∷ [] in
+      ap (λ b. reason (badLength S yields 21 ∷ noFiller f yields 23 ∷ b yields 2 ∷ rest)) (not-ltb entry 64) ∙ reason-append (fillerTests ((pages S) .made) (length (S .heap)) f) (tests entry (λ t. eqb t (entry + 1))) refl
 
   -- e, ms and g are what functions gave: the region's entry, the tick at its tag, and for the tests
   module _ (e g : ℕ) (ms : List ℕ) (found : e ≡ entry) (ticks : ms ≡ set (replicate 256 0) (e + 1) 1)
-      (asked : g ≡ firstRefusal (reason (regionTests ((pages S) .made) (length (S .heap)) e)) (reason (tests e (tickAt ms)))) where
+      (asked : g ≡ firstRefusal (reason (fillerTests ((pages S) .made) (length (S .heap)) f)) (reason (tests e (tickAt ms)))) where
     -- it is ticked alone
     ticks-are : tickAt ms ≡ (λ t. among t ((e + 1) ∷ []))
     unfolding ticked
     ticks-are = fun-ext (λ t. rw ticks (blank-ticked 256 ((e + 1) ∷ []) t (omega (arith, found, entry-most ((regions S) .names) r), tt)))
 
-    pub delete-second : refusal S (delete r) ≡ g
+    pub delete-second : refusal S (delete r f) ≡ g
     delete-second = delete-refused ∙ sym (asked ∙ rw (ticks-are ∙ fun-ext (λ t. among-alone t (e + 1)), found))
 
     ticks-named : tickAt ms ≡ named S (r ∷ [])
     unfolding tagOf entryOf
     ticks-named = ticks-are ∙ rw found
 
-    -- and where the tests accept, cs the counts once the region is scanned, ds with the frames entered, os and k the owners and the number of pages given back
-    pub delete-effect : (a : Answer) (T : Store) (cs ds os : List ℕ) (k : ℕ) → g ≡ 0 → a ≡ gives (k ∷ []) → Counts ((regions S) .counts) → length ((pages S) .owners) ≡ 256
-        → Scans (kinds S) (S .heap) (pages S) (tickAt ms) ((regions S) .counts) cs
-        → let f = frames S in ds ≡ enterings cs (newlyIn (f .standing) (f .counted) (f .widths) (f .slots) ((pages S) .owners))
+    -- and where the tests accept, cs the shares once the region is scanned, ds with the frames entered, os and k the owners and the number of pages given back
+    pub delete-effect : (a : Answer) (T : Store) (cs ds os : List ℕ) (k : ℕ) → g ≡ 0 → a ≡ gives (k ∷ []) → Shares ((regions S) .shares) → length ((pages S) .owners) ≡ 256
+        → (f < 4 → Scans f (kinds S) (S .heap) (pages S) (tickAt ms) ((regions S) .shares) cs)
+        → let fs = frames S in ds ≡ enterings f cs (newlyIn (fs .standing) (fs .counted) (fs .widths) (fs .slots) ((pages S) .owners))
         → GivesBack ((pages S) .made) ((pages S) .owners) (tickAt ms) os k
-        → frames T ≡ raised f → kinds T ≡ kinds S → regions T ≡ withoutRegions (withCounts (regions S) ds) (e ∷ []) → pages T ≡ pagesWith ((pages S) .made) os ((pages S) .taken) → T .heap ≡ S .heap
-        → Outcome (delete r) S a T
+        → frames T ≡ raised fs → kinds T ≡ kinds S → regions T ≡ withoutRegions (withShares (regions S) ds) (e ∷ []) → pages T ≡ pagesWith ((pages S) .made) os ((pages S) .taken) → T .heap ≡ S .heap
+        → Outcome (delete r f) S a T
     unfolding Accepted entryOf
     delete-effect a T cs ds os k z p fits long scans enters back ef en er ep eh =
         let once = repeats-once (tagOf (regions S) r ∷ []) refl in
-        let number = code-number S (r ∷ []) once fits long (tickAt ms) ticks-named cs ds os k scans enters back in
-        by-effect (delete r) S a T (delete-second ∙ z)
-        (p ∙ ap (λ n. gives (n ∷ [])) (number ∙ omega arith), code-deleted S (r ∷ []) once fits long (tickAt ms) ticks-named cs ds os k scans enters back T ef en (er ∙ rw found) ep eh)
+        let few = filler-passed ((pages S) .made) (length (S .heap)) f (first-zero _ _ (sym asked ∙ z)) in
+        let number = code-number f S (r ∷ []) once few fits long (tickAt ms) ticks-named cs ds os k (scans few) enters back in
+        by-effect (delete r f) S a T (delete-second ∙ z)
+        (p ∙ ap (λ n. gives (n ∷ [])) (number ∙ omega arith), code-deleted f S (r ∷ []) once few fits long (tickAt ms) ticks-named cs ds os k (scans few) enters back T ef en (er ∙ rw found) ep eh)

@@ -5,9 +5,9 @@ ghost use mathlib.Core.List.{[]};
 ghost use Rattle.model.specs.Model.{delete};
 ghost use Rattle.outcomes.specs.Outcome.{Outcome, answerOf, store};
 
-// Document 01's call 23: the region goes, with its objects and pages.
-pub fn delete(s: State, heap: &[u32], region: u32) -> Done
-    ensures { λ r. ⌜ Outcome (delete region) (store s (now (heap .entry))) (answerOf (r .reply) []) (store (r .state) (now (heap .entry))) ⌝ }
+// Document 01's call 23, for a filler (document 02, card 5): the region goes, with its objects and pages.
+pub fn delete(s: State, heap: &[u32], region: u32, filler: u32) -> Done
+    ensures { λ r. ⌜ Outcome (delete region filler) (store s (now (heap .entry))) (answerOf (r .reply) []) (store (r .state) (now (heap .entry))) ⌝ }
 {
     let mut t = s;
     let e = regions::entry_of(&t.regions.names, region);
@@ -21,12 +21,13 @@ pub fn delete(s: State, heap: &[u32], region: u32) -> Done
     let g = delete_parts::delete_refusal(
         t.pages.made,
         heap.len(),
+        filler,
         region,
         e,
         tag,
         &t.regions.names,
         &t.regions.parents,
-        &t.regions.counts,
+        &t.regions.shares,
         n,
         m,
         &t.frames.widths,
@@ -41,7 +42,7 @@ pub fn delete(s: State, heap: &[u32], region: u32) -> Done
         };
     }
     // scanned
-    regions::counts_shaped(t.regions);
+    regions::shares_shaped(t.regions.shares);
     let mut c = apart::scan(
         t.kinds.declared,
         &t.kinds.sizes,
@@ -51,9 +52,10 @@ pub fn delete(s: State, heap: &[u32], region: u32) -> Done
         &t.pages.owners,
         &t.pages.taken,
         &members,
-        t.regions.counts,
+        t.regions.shares,
+        filler,
     );
-    // the frames that m is raised over enter the counts, by the owners before any page is given back
+    // the frames that m is raised over enter the shares, by the owners before any page is given back
     delete_parts::enter_frames(
         n,
         m,
@@ -61,11 +63,12 @@ pub fn delete(s: State, heap: &[u32], region: u32) -> Done
         &t.frames.slots,
         &t.pages.owners,
         &mut c,
+        filler,
     );
     // given back
     let number = apart::give_back(t.pages.made, &mut t.pages.owners, &members);
     let mut r = t.regions;
-    r.counts = c;
+    r.shares = c;
     t.regions = r;
     regions::put_word(&mut t.regions.names, e, 0);
     let raised = frames::top(n);

@@ -11,19 +11,21 @@ ghost use Rattle.lists.specs.Ticks.{tickAt, ticked};
 ghost use Rattle.members.specs.Members.{tagBy};
 ghost use Rattle.calls_delete_all.specs.DeleteAll.{listTests};
 
-// 21, 22, then 2 and 3 for each name, then 18. The regions named are ticked, where it gives 0.
+// 21, 23, 22, then 2 and 3 for each name, then 18. The regions named are ticked, where it gives 0.
 fn list_refusal<'a>(
     made: u32,
     words: usize,
+    filler: u32,
     list: &'a [u32],
     names: &'a [u32],
     parents: &'a [u8],
     members: &mut [u8],
 ) -> u32
-    ensures { λ r. ⌜ (r ≡ reason (listTests made words (now (list .entry)) (now (names .entry)) (now (parents .entry)) (tickAt (ticked (now (members .entry)) (map (tagBy (now (names .entry))) (now (list .entry))))))) × (r ≡ 0 → now (members .exit) ≡ ticked (now (members .entry)) (map (tagBy (now (names .entry))) (now (list .entry)))) ⌝ }
+    ensures { λ r. ⌜ (r ≡ reason (listTests made words filler (now (list .entry)) (now (names .entry)) (now (parents .entry)) (tickAt (ticked (now (members .entry)) (map (tagBy (now (names .entry))) (now (list .entry))))))) × (r ≡ 0 → now (members .exit) ≡ ticked (now (members .entry)) (map (tagBy (now (names .entry))) (now (list .entry)))) ⌝ }
 {
-    if pages::wrong_length(made, words) {
-        return 21;
+    let first = checks::filler_refusal(made, words, filler);
+    if first != 0 {
+        return first;
     }
     if members::wrong_names(list) {
         return 22;
@@ -39,10 +41,10 @@ fn list_refusal<'a>(
     }
 }
 
-// Call 24 (document 02, card 2): the regions named go together, with their objects and pages, or none of them does. The scan works on a copy of the counts, so that a refusal has
+// Call 24 (document 02, card 2), for a filler (card 5): the regions named go together, with their objects and pages, or none of them does. The scan works on a copy of the shares, so that a refusal has
 // nothing to undo, and no page is given back before the call is accepted.
-pub fn delete_all(s: State, heap: &[u32], list: &[u32]) -> Done
-    ensures { λ r. ⌜ Outcome (deleteAll (now (list .entry))) (store s (now (heap .entry))) (answerOf (r .reply) []) (store (r .state) (now (heap .entry))) ⌝ }
+pub fn delete_all(s: State, heap: &[u32], list: &[u32], filler: u32) -> Done
+    ensures { λ r. ⌜ Outcome (deleteAll (now (list .entry)) filler) (store s (now (heap .entry))) (answerOf (r .reply) []) (store (r .state) (now (heap .entry))) ⌝ }
 {
     let mut t = s;
     let n = t.frames.standing;
@@ -52,6 +54,7 @@ pub fn delete_all(s: State, heap: &[u32], list: &[u32]) -> Done
     let g = list_refusal(
         t.pages.made,
         heap.len(),
+        filler,
         list,
         &t.regions.names,
         &t.regions.parents,
@@ -63,8 +66,8 @@ pub fn delete_all(s: State, heap: &[u32], list: &[u32]) -> Done
             reply: checks::refused(g),
         };
     }
-    // scanned, on a copy of the counts
-    regions::counts_shaped(t.regions);
+    // scanned, on a copy of the shares
+    regions::shares_shaped(t.regions.shares);
     let mut c = apart::scan(
         t.kinds.declared,
         &t.kinds.sizes,
@@ -74,7 +77,8 @@ pub fn delete_all(s: State, heap: &[u32], list: &[u32]) -> Done
         &t.pages.owners,
         &t.pages.taken,
         &members,
-        t.regions.counts,
+        t.regions.shares,
+        filler,
     );
     // the rest of the check
     if joint_parts::pointed_at(
@@ -91,7 +95,7 @@ pub fn delete_all(s: State, heap: &[u32], list: &[u32]) -> Done
             reply: checks::refused(19),
         };
     }
-    // the frames that m is raised over enter the counts, by the owners before any page is given back
+    // the frames that m is raised over enter the shares, by the owners before any page is given back
     delete_parts::enter_frames(
         n,
         m,
@@ -99,11 +103,12 @@ pub fn delete_all(s: State, heap: &[u32], list: &[u32]) -> Done
         &t.frames.slots,
         &t.pages.owners,
         &mut c,
+        filler,
     );
     // given back
     let number = apart::give_back(t.pages.made, &mut t.pages.owners, &members);
     let mut r = t.regions;
-    r.counts = c;
+    r.shares = c;
     t.regions = r;
     joint_parts::give_up(&mut t.regions.names, &members);
     let raised = frames::top(n);

@@ -50,7 +50,7 @@ fn blank(n: u32, r: u8) -> State
             names: names,
             parents: [0; 64],
             levels: levels,
-            counts: [0; 64],
+            shares: [0; 256],
             newest: [0; 64],
             oldest: [0; 64],
         },

@@ -7,6 +7,8 @@ ghost use Rattle.model.specs.Model.{load, setPointer};
 ghost use Rattle.regions.specs.Laws.Steps.{entering, leaving};
 ghost use Rattle.outcomes.specs.Store.{breaksIn};
 ghost use Rattle.outcomes.specs.Outcome.{Outcome, answerOf, store};
+ghost use Rattle.model.specs.Calls.{reason};
+ghost use Rattle.checks.specs.Checks.{firstRefusal, fillerTests, topTests};
 ghost use Rattle.calls_pointers.specs.Pointers.{pointerRefusal, setRefusal, countedTag, tagLeft, tagEntered};
 
 // 14 and 15 for word w of the object that v leads to, and 16 unless the word is a pointer.
@@ -160,21 +162,48 @@ fn tags_of<'a>(marks: &'a [u8], owners: &'a [u8], object: &[u32], v: u32, w: u32
     }
 }
 
-// The counts of a set pointer.
-fn move_counts(counts: &mut [u32; 64], leave: u32, enter: u32)
-    ensures { λ _. ⌜ now (counts .exit) ≡ entering (leaving (now (counts .entry)) leave) enter ⌝ }
+// The shares of a set pointer: both the old pointer and the new one move that filler's.
+fn move_shares(shares: &mut [u32; 256], filler: u32, leave: u32, enter: u32)
+    ensures { λ _. ⌜ now (shares .exit) ≡ entering filler (leaving filler (now (shares .entry)) leave) enter ⌝ }
 {
-    regions::leave(counts, leave);
-    regions::enter(counts, enter);
+    regions::leave(shares, filler, leave);
+    regions::enter(shares, filler, enter);
 }
 
-// Document 01's call 14: a pointer word gets what slot `value` holds, and the counts follow.
-pub fn set_pointer(s: State, heap: &mut [u32], slot: u32, w: u32, value: u32) -> Done
-    ensures { λ r. ⌜ Outcome (setPointer slot w value) (store s (now (heap .entry))) (answerOf (r .reply) []) (store (r .state) (now (heap .exit))) ⌝ }
+// 21 and 23, then 6 and 9.
+fn slots_refusal(
+    made: u32,
+    n: usize,
+    filler: u32,
+    standing: u32,
+    widths: &[u8],
+    slot: u32,
+    value: u32,
+) -> u32
+    ensures { λ r. ⌜ r ≡ firstRefusal (reason (fillerTests made n filler)) (reason (topTests made n standing (now (widths .entry)) slot value)) ⌝ }
+{
+    let g = checks::filler_refusal(made, n, filler);
+    if g != 0 {
+        return g;
+    }
+    checks::top_refusal(made, n, standing, widths, slot, value)
+}
+
+// Document 01's call 14, for a filler (document 02, card 5): a pointer word gets what slot `value` holds, and the filler's shares follow.
+pub fn set_pointer(s: State, heap: &mut [u32], slot: u32, w: u32, value: u32, filler: u32) -> Done
+    ensures { λ r. ⌜ Outcome (setPointer slot w value filler) (store s (now (heap .entry))) (answerOf (r .reply) []) (store (r .state) (now (heap .exit))) ⌝ }
 {
     let mut t = s;
     let n = t.frames.standing;
-    let g = checks::top_refusal(t.pages.made, heap.len(), n, &t.frames.widths, slot, value);
+    let g = slots_refusal(
+        t.pages.made,
+        heap.len(),
+        filler,
+        n,
+        &t.frames.widths,
+        slot,
+        value,
+    );
     if g != 0 {
         return Done {
             state: t,
@@ -204,8 +233,8 @@ pub fn set_pointer(s: State, heap: &mut [u32], slot: u32, w: u32, value: u32) ->
         };
     }
     let m = tags_of(&t.kinds.marks, &t.pages.owners, object, v, w, x);
-    regions::counts_shaped(t.regions);
-    move_counts(&mut t.regions.counts, m.leave, m.enter);
+    regions::shares_shaped(t.regions.shares);
+    move_shares(&mut t.regions.shares, filler, m.leave, m.enter);
     objects::write(heap, v, w, x);
     Done {
         state: t,

@@ -73,7 +73,7 @@ pub fn new_region(s: State, heap: &[u32]) -> Done
     regions::put_word(&mut t.regions.names, i, name);
     regions::put_byte(&mut t.regions.parents, i, 0);
     regions::put_byte(&mut t.regions.levels, i, 1);
-    regions::put_word(&mut t.regions.counts, i, 0);
+    regions::clear_shares(&mut t.regions.shares, i);
     regions::put_half(&mut t.regions.newest, i, 0);
     regions::put_word(&mut t.regions.oldest, i, 0);
     Done {
@@ -111,7 +111,7 @@ pub fn subregion(s: State, heap: &[u32], above: u32) -> Done
     regions::put_word(&mut t.regions.names, at, next);
     regions::put_byte(&mut t.regions.parents, at, tag);
     regions::put_byte(&mut t.regions.levels, at, level);
-    regions::put_word(&mut t.regions.counts, at, 0);
+    regions::clear_shares(&mut t.regions.shares, at);
     regions::put_half(&mut t.regions.newest, at, 0);
     regions::put_word(&mut t.regions.oldest, at, 0);
     Done {

@@ -64,7 +64,7 @@ pub fn report(s: State, heap: &[u32], region: u32) -> Reply
     let f = s.frames;
     // The entry is below 64 here. `least` keeps the compiler from working the tag out again at every slot.
     let t = cells::least(e, 63) + 1;
-    let stored = regions::count_at(&r.counts, e);
+    let stored = regions::count_at(&r.shares, e);
     let all = outside(
         stored,
         f.standing,

@@ -1,4 +1,4 @@
--- The tests of push and drop, in document 01's order, over the numbers that they read.
+-- The tests of push and drop, in the documents' order, over the numbers that they read.
 -- Assumes nothing.
 use mathlib.Core.Bool.{Bool, _||_}
 use mathlib.Core.List.{List, [], _∷_}
@@ -11,5 +11,6 @@ use Rattle.pages.specs.Pages.{wrongLengthIn}
 unfoldable pub pushTests : ℕ → ℕ → ℕ → ℕ → List (Bool × ℕ)
 pushTests made n standing w = wrongLengthIn made n yields 21 ∷ (eqb w 0 || ltb 8 w) yields 8 ∷ leb 32 standing yields 7 ∷ []
 
-unfoldable pub dropTests : ℕ → ℕ → ℕ → List (Bool × ℕ)
-dropTests made n standing = wrongLengthIn made n yields 21 ∷ eqb standing 0 yields 6 ∷ []
+-- what a drop tests after the heap's length and the filler
+unfoldable pub dropTests : ℕ → List (Bool × ℕ)
+dropTests standing = eqb standing 0 yields 6 ∷ []

@@ -11,6 +11,7 @@ ghost use Rattle.frames.specs.Frames.{topIn, uncountsIn};
 ghost use Rattle.regions.specs.Laws.Steps.{leavings};
 ghost use Rattle.outcomes.specs.Store.{targetsIn};
 ghost use Rattle.outcomes.specs.Outcome.{Outcome, answerOf, store};
+ghost use Rattle.checks.specs.Checks.{firstRefusal, fillerTests, beneathTests};
 ghost use Rattle.calls_stack.specs.Stack.{pushTests, dropTests};
 
 fn push_refusal(made: u32, n: usize, standing: u32, slots: u32) -> u32
@@ -54,47 +55,48 @@ pub fn push(s: State, heap: &[u32], slots: u32) -> Done
     }
 }
 
-// The counts once the top frame goes: if the frame then on top was counted, its pointers leave them.
+// The shares once the top frame goes: if the frame then on top was counted, its pointers leave them, by that filler.
 fn uncount_top<'a>(
     standing: u32,
     counted: u32,
     widths: &'a [u8],
     slots: &'a [u32],
     owners: &'a [u8],
-    counts: &mut [u32],
+    shares: &mut [u32; 256],
+    filler: u32,
 )
-    ensures { λ _. ⌜ now (counts .exit) ≡ leavings (now (counts .entry)) (pick (uncountsIn standing counted) (targetsIn (now (widths .entry)) (now (slots .entry)) (now (owners .entry)) (topIn standing - 1)) []) ⌝ }
+    ensures { λ _. ⌜ now (shares .exit) ≡ leavings filler (now (shares .entry)) (pick (uncountsIn standing counted) (targetsIn (now (widths .entry)) (now (slots .entry)) (now (owners .entry)) (topIn standing - 1)) []) ⌝ }
 {
     if frames::uncounts(standing, counted) {
         checks::leave_frame(
             widths,
             slots,
             owners,
-            counts,
+            shares,
+            filler,
             cells::less(frames::top(standing)),
         );
     }
 }
 
-fn drop_refusal(made: u32, n: usize, standing: u32) -> u32
-    ensures { λ r. ⌜ r ≡ reason (dropTests made n standing) ⌝ }
+// 21 and 23, then 6.
+fn drop_refusal(made: u32, n: usize, filler: u32, standing: u32) -> u32
+    ensures { λ r. ⌜ r ≡ firstRefusal (reason (fillerTests made n filler)) (reason (dropTests standing)) ⌝ }
 {
-    if pages::wrong_length(made, n) {
-        return 21;
+    let g = checks::filler_refusal(made, n, filler);
+    if g != 0 {
+        return g;
     }
-    if standing == 0 {
-        return 6;
-    }
-    0
+    if standing == 0 { 6 } else { 0 }
 }
 
-// Document 01's call 6: the top frame goes.
-pub fn drop(s: State, heap: &[u32]) -> Done
-    ensures { λ r. ⌜ Outcome dropFrame (store s (now (heap .entry))) (answerOf (r .reply) []) (store (r .state) (now (heap .entry))) ⌝ }
+// Document 01's call 6, for a filler (document 02, card 5): the top frame goes.
+pub fn drop(s: State, heap: &[u32], filler: u32) -> Done
+    ensures { λ r. ⌜ Outcome (dropFrame filler) (store s (now (heap .entry))) (answerOf (r .reply) []) (store (r .state) (now (heap .entry))) ⌝ }
 {
     let mut t = s;
     let n = t.frames.standing;
-    let g = drop_refusal(t.pages.made, heap.len(), n);
+    let g = drop_refusal(t.pages.made, heap.len(), filler, n);
     if g != 0 {
         return Done {
             state: t,
@@ -102,19 +104,18 @@ pub fn drop(s: State, heap: &[u32]) -> Done
         };
     }
     let m = t.frames.counted;
-    regions::counts_shaped(t.regions);
-    let mut c = t.regions.counts;
+    regions::shares_shaped(t.regions.shares);
+    let f = t.frames;
+    let p = t.pages;
     uncount_top(
         n,
         m,
-        &t.frames.widths,
-        &t.frames.slots,
-        &t.pages.owners,
-        &mut c,
+        &f.widths,
+        &f.slots,
+        &p.owners,
+        &mut t.regions.shares,
+        filler,
     );
-    let mut r = t.regions;
-    r.counts = c;
-    t.regions = r;
     t.frames.counted = frames::counted_after(n, m);
     let below = frames::top(n);
     t.frames.standing = below;
@@ -124,13 +125,40 @@ pub fn drop(s: State, heap: &[u32]) -> Done
     }
 }
 
-// Document 01's call 7: the value goes into a slot of the frame beneath, after the top frame has gone.
-pub fn hand_back(s: State, heap: &[u32], slot: u32, beneath: u32) -> Done
-    ensures { λ r. ⌜ Outcome (handBack slot beneath) (store s (now (heap .entry))) (answerOf (r .reply) []) (store (r .state) (now (heap .entry))) ⌝ }
+// 21 and 23, then 6 and 9.
+fn hand_refusal(
+    made: u32,
+    n: usize,
+    filler: u32,
+    standing: u32,
+    widths: &[u8],
+    slot: u32,
+    beneath: u32,
+) -> u32
+    ensures { λ r. ⌜ r ≡ firstRefusal (reason (fillerTests made n filler)) (reason (beneathTests made n standing (now (widths .entry)) slot beneath)) ⌝ }
+{
+    let first = checks::filler_refusal(made, n, filler);
+    if first != 0 {
+        return first;
+    }
+    checks::beneath_refusal(made, n, standing, widths, slot, beneath)
+}
+
+// Document 01's call 7, for a filler (document 02, card 5): the value goes into a slot of the frame beneath, after the top frame has gone.
+pub fn hand_back(s: State, heap: &[u32], slot: u32, beneath: u32, filler: u32) -> Done
+    ensures { λ r. ⌜ Outcome (handBack slot beneath filler) (store s (now (heap .entry))) (answerOf (r .reply) []) (store (r .state) (now (heap .entry))) ⌝ }
 {
     let mut t = s;
     let n = t.frames.standing;
-    let g = checks::beneath_refusal(t.pages.made, heap.len(), n, &t.frames.widths, slot, beneath);
+    let g = hand_refusal(
+        t.pages.made,
+        heap.len(),
+        filler,
+        n,
+        &t.frames.widths,
+        slot,
+        beneath,
+    );
     if g != 0 {
         return Done {
             state: t,
@@ -139,19 +167,18 @@ pub fn hand_back(s: State, heap: &[u32], slot: u32, beneath: u32) -> Done
     }
     let v = checks::top_slot(n, &t.frames.slots, slot);
     let m = t.frames.counted;
-    regions::counts_shaped(t.regions);
-    let mut c = t.regions.counts;
+    regions::shares_shaped(t.regions.shares);
+    let f = t.frames;
+    let p = t.pages;
     uncount_top(
         n,
         m,
-        &t.frames.widths,
-        &t.frames.slots,
-        &t.pages.owners,
-        &mut c,
+        &f.widths,
+        &f.slots,
+        &p.owners,
+        &mut t.regions.shares,
+        filler,
     );
-    let mut r = t.regions;
-    r.counts = c;
-    t.regions = r;
     t.frames.counted = frames::counted_after(n, m);
     let below = frames::top(n);
     t.frames.standing = below;

@@ -1,11 +1,11 @@
--- The tests that several calls share, in document 01's order, over the numbers and lists that they read.
+-- The tests that several calls share, in the documents' order, over the numbers and lists that they read.
 -- Assumes nothing.
 use mathlib.Core.Bool.{Bool, not, _||_}
 use mathlib.Core.List.{List, [], _∷_}
 use Prim.Native.Nat.{ℕ, _-_}
 use lib.Dec.{eqb, ltb, leb}
 use Rattle.lists.specs.Lists.{pick}
-use Rattle.model.specs.Calls.{_yields_}
+use Rattle.model.specs.Calls.{_yields_, noFiller}
 use Rattle.frames.specs.Frames.{topIn, widthIn}
 use Rattle.kinds.specs.Kinds.{sizeIn}
 use Rattle.pages.specs.Pages.{wrongLengthIn}
@@ -14,6 +14,10 @@ use Rattle.objects.specs.Parts.{headerIn}
 -- the first number, or the second where the first accepts
 abbrev pub firstRefusal : ℕ → ℕ → ℕ
 firstRefusal g h = pick (eqb g 0) h g
+
+-- a heap of n words; the filler f (document 02, card 5)
+unfoldable pub fillerTests : ℕ → ℕ → ℕ → List (Bool × ℕ)
+fillerTests made n f = wrongLengthIn made n yields 21 ∷ noFiller f yields 23 ∷ []
 
 -- a heap of n words; slots s and t of the top frame
 unfoldable pub topTests : ℕ → ℕ → ℕ → List ℕ → ℕ → ℕ → List (Bool × ℕ)

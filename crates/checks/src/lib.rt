@@ -1,4 +1,4 @@
-// Replies, the tests that several calls share, and the counts that the pointers of a frame enter or leave.
+// Replies, the tests that several calls share, and the shares that the pointers of a frame enter or leave.
 use state::Reply;
 ghost use mathlib.Core.Path.{_≡_};
 ghost use mathlib.Core.List.{[], _∷_};
@@ -9,7 +9,7 @@ ghost use Rattle.model.specs.Model.{gives, refusedBy};
 ghost use Rattle.model.specs.Calls.{reason};
 ghost use Rattle.outcomes.specs.Store.{targetsIn};
 ghost use Rattle.outcomes.specs.Outcome.{answerOf};
-ghost use Rattle.checks.specs.Checks.{topTests, beneathTests, wordTests, regionTests};
+ghost use Rattle.checks.specs.Checks.{fillerTests, topTests, beneathTests, wordTests, regionTests};
 
 pub fn refused(n: u32) -> Reply
     ensures { λ r. ⌜ answerOf r [] ≡ refusedBy n ⌝ }
@@ -33,6 +33,16 @@ pub fn gives(a: u32, b: u32, c: u32, d: u32) -> Reply
         c: c,
         d: d,
     }
+}
+
+// 21, and 23 for a filler above 3.
+pub fn filler_refusal(made: u32, n: usize, filler: u32) -> u32
+    ensures { λ r. ⌜ r ≡ reason (fillerTests made n filler) ⌝ }
+{
+    if pages::wrong_length(made, n) {
+        return 21;
+    }
+    if 3 < filler { 23 } else { 0 }
 }
 
 // 21, 6 and 9 for two slots of the top frame; a call that names one slot gives it twice.
@@ -111,21 +121,22 @@ pub fn region_refusal(made: u32, n: usize, e: u32) -> u32
     if e < 64 { 0 } else { 2 }
 }
 
-// The counts with the pointers of frame i, and without them.
+// The shares with the pointers of frame i, and without them, by that filler.
 pub fn enter_frame<'a>(
     widths: &'a [u8],
     slots: &'a [u32],
     owners: &'a [u8],
-    counts: &mut [u32],
+    shares: &mut [u32],
+    filler: u32,
     i: u32,
 )
-    ensures { λ _. ⌜ now (counts .exit) ≡ enterings (now (counts .entry)) (targetsIn (now (widths .entry)) (now (slots .entry)) (now (owners .entry)) i) ⌝ }
+    ensures { λ _. ⌜ now (shares .exit) ≡ enterings filler (now (shares .entry)) (targetsIn (now (widths .entry)) (now (slots .entry)) (now (owners .entry)) i) ⌝ }
 {
     let w = frames::width_at(widths, i);
     let mut k: u32 = 0;
     while k < w {
         let t = pages::owner_of(owners, frames::slot_at(slots, i, k));
-        regions::enter(counts, t);
+        regions::enter(shares, filler, t);
         k += 1;
     }
 }
@@ -134,16 +145,17 @@ pub fn leave_frame<'a>(
     widths: &'a [u8],
     slots: &'a [u32],
     owners: &'a [u8],
-    counts: &mut [u32],
+    shares: &mut [u32],
+    filler: u32,
     i: u32,
 )
-    ensures { λ _. ⌜ now (counts .exit) ≡ leavings (now (counts .entry)) (targetsIn (now (widths .entry)) (now (slots .entry)) (now (owners .entry)) i) ⌝ }
+    ensures { λ _. ⌜ now (shares .exit) ≡ leavings filler (now (shares .entry)) (targetsIn (now (widths .entry)) (now (slots .entry)) (now (owners .entry)) i) ⌝ }
 {
     let n = frames::width_at(widths, i);
     let mut s: u32 = 0;
     while s < n {
         let t = pages::owner_of(owners, frames::slot_at(slots, i, s));
-        regions::leave(counts, t);
+        regions::leave(shares, filler, t);
         s += 1;
     }
 }

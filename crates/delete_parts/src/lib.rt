@@ -1,12 +1,11 @@
 // What delete asks before a region goes; the look over the uncounted frames and the frames that are counted from then on, for a joint delete too.
 ghost use mathlib.Core.Path.{_≡_};
-ghost use lib.ListN.{getD};
 ghost use Rattle.model.specs.Calls.{reason};
-ghost use Rattle.regions.specs.Regions.{subregionsIn};
+ghost use Rattle.regions.specs.Regions.{subregionsIn, countIn};
 ghost use Rattle.regions.specs.Laws.Steps.{enterings};
 ghost use Rattle.outcomes.specs.Store.{ledAmongIn};
 ghost use Rattle.outcomes.specs.Outcome.{newlyIn};
-ghost use Rattle.checks.specs.Checks.{firstRefusal, regionTests};
+ghost use Rattle.checks.specs.Checks.{firstRefusal, fillerTests};
 ghost use Rattle.lists.specs.Ticks.{tickAt};
 ghost use Rattle.delete_parts.specs.Delete.{deleteTests};
 
@@ -44,12 +43,13 @@ pub fn look<'a>(
 pub fn delete_refusal<'a>(
     made: u32,
     words: usize,
+    filler: u32,
     region: u32,
     e: u32,
     tag: u32,
     names: &'a [u32],
     parents: &'a [u8],
-    counts: &'a [u32],
+    shares: &'a [u32],
     standing: u32,
     counted: u32,
     widths: &'a [u8],
@@ -57,17 +57,20 @@ pub fn delete_refusal<'a>(
     owners: &'a [u8],
     members: &'a [u8],
 ) -> u32
-    ensures { λ r. ⌜ r ≡ firstRefusal (reason (regionTests made words e)) (reason (deleteTests region (subregionsIn (now (names .entry)) (now (parents .entry)) tag) (getD (now (counts .entry)) e 0) (ledAmongIn standing counted (now (widths .entry)) (now (slots .entry)) (now (owners .entry)) (tickAt (now (members .entry)))))) ⌝ }
+    ensures { λ r. ⌜ r ≡ firstRefusal (reason (fillerTests made words filler)) (reason (deleteTests region e (subregionsIn (now (names .entry)) (now (parents .entry)) tag) (countIn (now (shares .entry)) e) (ledAmongIn standing counted (now (widths .entry)) (now (slots .entry)) (now (owners .entry)) (tickAt (now (members .entry)))))) ⌝ }
 {
-    let g = checks::region_refusal(made, words, e);
+    let g = checks::filler_refusal(made, words, filler);
     if g != 0 {
         return g;
+    }
+    if 64 <= e {
+        return 2;
     }
     if region == 1 {
         return 3;
     }
     let below = regions::subregions_of(names, parents, tag);
-    let stored = regions::count_at(counts, e);
+    let stored = regions::count_at(shares, e);
     if below != 0 {
         return 18;
     }
@@ -81,21 +84,22 @@ pub fn delete_refusal<'a>(
     }
 }
 
-// The counts with the pointers of the frames that are counted once m is raised.
+// The shares with the pointers of the frames that are counted once m is raised, by that filler.
 pub fn enter_frames<'a>(
     standing: u32,
     counted: u32,
     widths: &'a [u8],
     slots: &'a [u32],
     owners: &'a [u8],
-    counts: &mut [u32],
+    shares: &mut [u32],
+    filler: u32,
 )
-    ensures { λ _. ⌜ now (counts .exit) ≡ enterings (now (counts .entry)) (newlyIn standing counted (now (widths .entry)) (now (slots .entry)) (now (owners .entry))) ⌝ }
+    ensures { λ _. ⌜ now (shares .exit) ≡ enterings filler (now (shares .entry)) (newlyIn standing counted (now (widths .entry)) (now (slots .entry)) (now (owners .entry))) ⌝ }
 {
     let n = cells::less(frames::frame_count(standing));
     let mut i = counted;
     while i < n {
-        checks::enter_frame(widths, slots, owners, counts, i);
+        checks::enter_frame(widths, slots, owners, shares, filler, i);
         i += 1;
     }
 }

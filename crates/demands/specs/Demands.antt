@@ -66,12 +66,12 @@ pub record Holds (h : History) (S : Store) : Type 0 where
   -- if the next call is a report of a live region, it answers the stored count and how many outside pointers there are
   pub reports : (r : ℕ) → isLive h r ≡ true → (a : Answer) (T : Store) → Outcome (report r) S a T
       → (a .refusal ≡ 0) × (getD (a .values) 0 0 ≡ storedCount S r) × (getD (a .values) 1 0 ≡ outside h S r)
-  -- if the next call deletes a live region, not region 1, it is accepted just where the region has no live subregion and no outside pointer
-  pub deletes : (r : ℕ) → isLive h r ≡ true → r ≢ 1 → (a : Answer) (T : Store) → Outcome (delete r) S a T
+  -- if the next call deletes a live region, not region 1, for a filler 0 to 3, it is accepted just where the region has no live subregion and no outside pointer
+  pub deletes : (r f : ℕ) → isLive h r ≡ true → r ≢ 1 → f ≤ 3 → (a : Answer) (T : Store) → Outcome (delete r f) S a T
       → (a .refusal ≡ 0) ↔ ((subregions h r ≡ 0) × (outside h S r ≡ 0))
-  -- if the next call is a joint delete, of whatever list, it is accepted just where the list passes, no live region right below a member is left out, and every outside pointer
+  -- if the next call is a joint delete, of whatever list, for a filler 0 to 3, it is accepted just where the list passes, no live region right below a member is left out, and every outside pointer
   -- of a member is a word of a member's object (document 02, card 2)
-  pub together : (l : List ℕ) (a : Answer) (T : Store) → Outcome (deleteAll l) S a T
+  pub together : (l : List ℕ) (f : ℕ) → f ≤ 3 → (a : Answer) (T : Store) → Outcome (deleteAll l f) S a T
       → (a .refusal ≡ 0) ↔ ((namesPass h l ≡ true) × (closed h l ≡ true) × All (λ r. outsideBut h S l r ≡ 0) l)
 
 -- Demand 3. All of it, after any run from a start; the run may be empty.

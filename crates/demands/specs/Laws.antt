@@ -12,6 +12,8 @@ pub mod JointOfOne
 pub mod Apart
 pub mod Alike
 pub mod Layout
+pub mod Fillers
+pub mod Totals
 pub mod Table
 pub mod Cases
 pub mod Together

@@ -6,11 +6,12 @@ use mathlib.Core.List.{List, [], _∷_, _++_, append-nil}
 use Prim.Native.Nat.{ℕ, suc, _+_, _<_, _≤_}
 use native.Mathlib.Omega.{arith}
 use lib.Dec.{eqb}
-use lib.ListN.{length, drop, drop-of-length-le, length-drop}
+use lib.ListN.{length, getD, take, drop, drop-of-length-le, length-drop}
 use lib.Seq.{drop-drop}
 use Rattle.lists.specs.Lists.{pick, joined}
 use Rattle.lists.specs.Laws.Finds.{map-append}
 use Rattle.model.specs.Model.{Call}
+use Rattle.state.specs.declared.Reply.{Reply}
 use Rattle.outcomes.specs.Store.{Store}
 use Rattle.outcomes.specs.Outcome.{Outcome, answerOf}
 use Rattle.outcomes.specs.Runs.{Event, calls, Run, done, step}
@@ -18,7 +19,7 @@ use Rattle.store.specs.Dispatch.{isCall, DispatchedBy, Dispatched}
 use Rattle.script.specs.declared.Line.{Line}
 use Rattle.script.specs.Script.{front, ofClass, grown, scanned}
 use Rattle.script.specs.Found.{LineAt}
-use Rattle.drive.specs.Scripted.{linesOf, lineCall, callsOf, Called, scripted}
+use Rattle.drive.specs.Scripted.{linesOf, fillerPlace, lineCall, callsOf, Called, scripted}
 
 abbrev firstLine : List ℕ → List ℕ
 firstLine l = front (ofClass 2) l
@@ -61,6 +62,12 @@ unfolding scripted linesOf
 scripted-end text at h = rw (drop-of-length-le text {i = at} h)
 
 -- ---- one call more
+
+-- p, a to d and vs are what functions gave: where the filler goes, the four numbers, and the list
+pub called-by : (l : Line) (S : Store) (r : Reply) (T : Store) (p a b c d : ℕ) (vs : List ℕ) → let number : ℕ → ℕ = λ k. pick (eqb k p) (l .filler) (getD (l .args) k 0) in
+    p ≡ fillerPlace (l .call) (l .count) → a ≡ number 0 → b ≡ number 1 → c ≡ number 2 → d ≡ number 3 → vs ≡ take (l .count) (l .args)
+    → Dispatched (l .call) a b c d vs S r T → Called l S T
+called-by l S r T p a b c d vs ep ea eb ec ed ev h = (r, rw (ea, eb, ec, ed, ev, ep) at h)
 
 snoc : {S T : Store} {es : List Event} (e : Event) → Run S es T → Outcome (e .call) T (e .answer) (e .left) → Run S (es ++ (e ∷ [])) (e .left)
 snoc e done o = step o done

@@ -5,10 +5,12 @@ use state::Done;
 use state::Reply;
 use state::State;
 ghost use mathlib.Core.Path.{_≡_};
+ghost use lib.Dec.{eqb};
 ghost use lib.ListN.{length, drop};
+ghost use Rattle.lists.specs.Lists.{pick};
 ghost use Rattle.state.specs.declared.State.{State};
 ghost use Rattle.outcomes.specs.Outcome.{store};
-ghost use Rattle.drive.specs.Scripted.{Called, Scripted, ScriptedFrom};
+ghost use Rattle.drive.specs.Scripted.{fillerPlace, Called, Scripted, ScriptedFrom};
 
 // What a scanned line is where it is no call on a store that is made.
 const NOTHING: u32 = 0;
@@ -19,6 +21,9 @@ const NO_CALL: u32 = 255;
 
 // The call whose reply gets the length of a part.
 const VIEW: u32 = 17;
+
+// The call whose filler is the first number: its arguments are its list.
+const DELETE_ALL: u32 = 24;
 
 // The bytes of the longest script.
 const LONGEST: usize = 1048576;
@@ -50,19 +55,38 @@ fn with_part(s: State, heap: &[u32], slot: u32, r: Reply) -> Reply {
     q
 }
 
+// Where the filler goes among the four numbers of a call with so many arguments; 4 for a call that names none.
+fn filler_place(call: u32, count: u32) -> u32
+    ensures { λ r. ⌜ r ≡ fillerPlace call count ⌝ }
+{
+    if script::names_filler(call) != 1 {
+        return 4;
+    }
+    if call == DELETE_ALL { 0 } else { count }
+}
+
+// Number k that goes with a call: the argument there, or the filler.
+fn number_at(argument: u32, place: u32, filler: u32, k: u32) -> u32
+    ensures { λ r. ⌜ r ≡ pick (eqb k place) filler argument ⌝ }
+{
+    if k == place { filler } else { argument }
+}
+
 // The call that a scanned line is, on the state and the heap as they are; nothing where it is none. (The reply printed for view has the length of its part.)
 fn called(s: State, heap: &mut [u32], l: Line) -> Done
     ensures { λ d. ⌜ Called l (store s (now (heap .entry))) (store (d .state) (now (heap .exit))) ⌝ }
 {
     let a = l.args;
+    let f = l.filler;
+    let p = filler_place(l.call, l.count);
     let d = store::call(
         s,
         heap,
         l.call,
-        a[0],
-        a[1],
-        a[2],
-        a[3],
+        number_at(a[0], p, f, 0),
+        number_at(a[1], p, f, 1),
+        number_at(a[2], p, f, 2),
+        number_at(a[3], p, f, 3),
         cells::part(&a, 0, l.count as usize),
     );
     let t = d.state;

@@ -10,7 +10,7 @@ fn example() -> u32 {
     let b = store::push(a.state, &heap, 1);
     let c = store::new_region(b.state, &heap);
     let d = store::allocate(c.state, &mut heap, 0, c.reply.a, a.reply.a);
-    let e = store::delete(d.state, &heap, c.reply.a);
+    let e = store::delete(d.state, &heap, c.reply.a, 0);
     e.reply.refusal
 }
 

@@ -4,12 +4,12 @@ use mathlib.Core.Bool.{Bool, not, _&&_}
 use mathlib.Core.List.{List}
 use Prim.Native.Nat.{ℕ, suc}
 use lib.Dec.{eqb, ltb}
-use lib.ListN.{getD}
 use Rattle.lists.specs.Lists.{anyOf, upTo, zeroed}
+use Rattle.regions.specs.Regions.{countIn}
 
--- the count of a region that passes is not 0
+-- the count of a region that passes, by the shares, is not 0
 unfoldable pub stillCounted : List ℕ → (ℕ → Bool) → Bool
-stillCounted counts member = anyOf (λ i. member (suc i) && not (eqb (getD counts i 0) 0)) (upTo 64)
+stillCounted shares member = anyOf (λ i. member (suc i) && not (eqb (countIn shares i) 0)) (upTo 64)
 
 -- the names once the entries below n of the regions that pass are given up
 unfoldable pub namesLeft : List ℕ → (ℕ → Bool) → ℕ → List ℕ

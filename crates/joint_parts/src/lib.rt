@@ -36,12 +36,12 @@ pub fn closed<'a>(names: &'a [u32], parents: &'a [u8], members: &'a [u8]) -> boo
 }
 
 // Whether some member's count is not 0.
-fn still_counted<'a>(counts: &'a [u32], members: &'a [u8]) -> bool
-    ensures { λ r. ⌜ r ≡ stillCounted (now (counts .entry)) (tickAt (now (members .entry))) ⌝ }
+fn still_counted<'a>(shares: &'a [u32], members: &'a [u8]) -> bool
+    ensures { λ r. ⌜ r ≡ stillCounted (now (shares .entry)) (tickAt (now (members .entry))) ⌝ }
 {
     let mut i: u32 = 0;
     while i < 64 {
-        if regions::count_at(counts, i) != 0 {
+        if regions::count_at(shares, i) != 0 {
             if members::is_member(members, i + 1) {
                 return true;
             }
@@ -58,12 +58,12 @@ pub fn pointed_at<'a>(
     widths: &'a [u8],
     slots: &'a [u32],
     owners: &'a [u8],
-    counts: &'a [u32],
+    shares: &'a [u32],
     members: &'a [u8],
 ) -> bool
-    ensures { λ r. ⌜ r ≡ (stillCounted (now (counts .entry)) (tickAt (now (members .entry))) || ledAmongIn standing counted (now (widths .entry)) (now (slots .entry)) (now (owners .entry)) (tickAt (now (members .entry)))) ⌝ }
+    ensures { λ r. ⌜ r ≡ (stillCounted (now (shares .entry)) (tickAt (now (members .entry))) || ledAmongIn standing counted (now (widths .entry)) (now (slots .entry)) (now (owners .entry)) (tickAt (now (members .entry)))) ⌝ }
 {
-    if still_counted(counts, members) {
+    if still_counted(shares, members) {
         return true;
     }
     delete_parts::look(standing, counted, widths, slots, owners, members)

@@ -9,3 +9,4 @@ pub mod Ticks
 pub mod Zeroed
 pub mod Kept
 pub mod Every
+pub mod Order

@@ -49,6 +49,10 @@ size L k = length (marks (L .kinds) k) + 1
 abbrev pub fits : Region → ℕ → Bool
 fits g n = leb n (g .room)
 
+-- there are four fillers, 0 to 3, and f is none of them (document 02, card 5, on 23). The ledger keeps no share of a count: which filler acts changes nothing else here
+abbrev pub noFiller : ℕ → Bool
+noFiller f = ltb 3 f
+
 -- a list of names to delete together that is empty, longer than 16 or has a name twice, whether they live or not (document 02, card 2, on 22)
 unfoldable pub wrongNames : List ℕ → Bool
 wrongNames rs = eqb (length rs) 0 || ltb 16 (length rs) || repeats rs
@@ -67,8 +71,8 @@ checks L (declare ms) = (eqb (length ms) 0 || ltb 16 (length ms) || anyOf (ltb 4
 checks L newRegion = leb 64 (length (L .regions)) yields 4 ∷ leb 1000000 (L .given) yields 5 ∷ []
 checks L (subregion r) = dead L r yields 2 ∷ leb 16 ((region (L .regions) r) .level) yields 20 ∷ leb 64 (length (L .regions)) yields 4 ∷ leb 1000000 (L .given) yields 5 ∷ []
 checks L (push n) = (eqb n 0 || ltb 8 n) yields 8 ∷ leb 32 (length (L .frames)) yields 7 ∷ []
-checks L dropFrame = noFrame L yields 6 ∷ []
-checks L (handBack s b) = oneFrame L yields 6 ∷ (lacks (top L) s || lacks (beneath L) b) yields 9 ∷ []
+checks L (dropFrame f) = noFiller f yields 23 ∷ noFrame L yields 6 ∷ []
+checks L (handBack s b f) = noFiller f yields 23 ∷ oneFrame L yields 6 ∷ (lacks (top L) s || lacks (beneath L) b) yields 9 ∷ []
 checks L (allocate s r k) =
     noFrame L yields 6 ∷ lacks (top L) s yields 9 ∷ dead L r yields 2 ∷ (eqb k 0 || ltb (length (L .kinds)) k) yields 12
     ∷ (not (fits (region (L .regions) r) (size L k)) && eqb (heldBy L 0) 0) yields 13 ∷ []
@@ -77,8 +81,8 @@ checks L (copy s t) = noFrame L yields 6 ∷ (lacks (top L) s || lacks (top L) t
 checks L (fetch b s) = oneFrame L yields 6 ∷ (lacks (beneath L) b || lacks (top L) s) yields 9 ∷ []
 checks L (clear s) = noFrame L yields 6 ∷ lacks (top L) s yields 9 ∷ []
 checks L (load s w t) = noFrame L yields 6 ∷ (lacks (top L) s || lacks (top L) t) yields 9 ∷ null L s yields 14 ∷ noWord L s w yields 15 ∷ eqb (markAt L s w) 0 yields 16 ∷ []
-checks L (setPointer s w v) =
-    noFrame L yields 6 ∷ (lacks (top L) s || lacks (top L) v) yields 9 ∷ null L s yields 14 ∷ noWord L s w yields 15 ∷ eqb (markAt L s w) 0 yields 16
+checks L (setPointer s w v f) =
+    noFiller f yields 23 ∷ noFrame L yields 6 ∷ (lacks (top L) s || lacks (top L) v) yields 9 ∷ null L s yields 14 ∷ noWord L s w yields 15 ∷ eqb (markAt L s w) 0 yields 16
     ∷ not (allowed (parentIn L) (homeIn L) ((inSlot L s) .home) (markAt L s w) (slot L v)) yields 17 ∷ []
 checks L (put s w x) = noFrame L yields 6 ∷ lacks (top L) s yields 9 ∷ null L s yields 14 ∷ noWord L s w yields 15 ∷ not (eqb (markAt L s w) 0) yields 16 ∷ []
 checks L (get s w) = noFrame L yields 6 ∷ lacks (top L) s yields 9 ∷ null L s yields 14 ∷ noWord L s w yields 15 ∷ not (eqb (markAt L s w) 0) yields 16 ∷ []
@@ -88,9 +92,9 @@ checks L (about s) = noFrame L yields 6 ∷ lacks (top L) s yields 9 ∷ []
 checks L (report r) = dead L r yields 2 ∷ []
 checks L totals = []
 checks L audit = []
-checks L (delete r) = dead L r yields 2 ∷ eqb r 1 yields 3 ∷ not (eqb (subregions L r) 0) yields 18 ∷ not (eqb (outside L r) 0) yields 19 ∷ []
-checks L (deleteAll rs) =
-    wrongNames rs yields 22 ∷ nameTests (dead L) rs ++ (not (closed (L .regions) rs) yields 18 ∷ anyOf (λ r. not (eqb (outsideBut L rs r) 0)) rs yields 19 ∷ [])
+checks L (delete r f) = noFiller f yields 23 ∷ dead L r yields 2 ∷ eqb r 1 yields 3 ∷ not (eqb (subregions L r) 0) yields 18 ∷ not (eqb (outside L r) 0) yields 19 ∷ []
+checks L (deleteAll rs f) =
+    noFiller f yields 23 ∷ wrongNames rs yields 22 ∷ nameTests (dead L) rs ++ (not (closed (L .regions) rs) yields 18 ∷ anyOf (λ r. not (eqb (outsideBut L rs r) 0)) rs yields 19 ∷ [])
 checks L (ask q) = queryChecks L q
 
 unfoldable pub refusal : Model → Call → ℕ
@@ -107,15 +111,15 @@ reply L (declare ms) = gives ((length (L .kinds) + 1) ∷ [])
 reply L newRegion = gives ((L .given + 1) ∷ [])
 reply L (subregion r) = gives ((L .given + 1) ∷ [])
 reply L (push n) = gives ((length (L .frames) + 1) ∷ [])
-reply L dropFrame = gives (topPlace (L .frames) ∷ [])
-reply L (handBack s b) = gives (topPlace (L .frames) ∷ [])
+reply L (dropFrame f) = gives (topPlace (L .frames) ∷ [])
+reply L (handBack s b f) = gives (topPlace (L .frames) ∷ [])
 reply L (allocate s r k) = gives []
 reply L (first s r) = gives []
 reply L (copy s t) = gives []
 reply L (fetch b s) = gives []
 reply L (clear s) = gives []
 reply L (load s w t) = gives []
-reply L (setPointer s w v) = gives []
+reply L (setPointer s w v f) = gives []
 reply L (put s w x) = gives []
 reply L (get s w) = gives (getD ((inSlot L s) .words) w 0 ∷ [])
 reply L (view s) = record { refusal = 0; values = four []; part = (inSlot L s) .words }
@@ -124,8 +128,8 @@ reply L (about s) = gives ((inSlot L s) .home ∷ (inSlot L s) .kind ∷ [])
 reply L (report r) = gives (stored L r ∷ outside L r ∷ heldBy L r ∷ subregions L r ∷ [])
 reply L totals = gives (heldBy L 0 ∷ length (L .regions) ∷ length (L .frames) ∷ L .counted ∷ [])
 reply L audit = gives (1 ∷ [])
-reply L (delete r) = gives (heldBy L r ∷ [])
-reply L (deleteAll rs) = gives (sumOf (heldBy L) rs ∷ [])
+reply L (delete r f) = gives (heldBy L r ∷ [])
+reply L (deleteAll rs f) = gives (sumOf (heldBy L) rs ∷ [])
 reply L (ask q) = queryReply L q
 
 -- ---- What an accepted call leaves
@@ -236,15 +240,15 @@ accepted L (declare ms) = withKinds L (L .kinds ++ (ms ∷ []))
 accepted L newRegion = addRegion L 0 1
 accepted L (subregion r) = addRegion L r ((region (L .regions) r) .level + 1)
 accepted L (push n) = withFrames L (L .frames ++ (replicate n 0 ∷ [])) (L .counted)
-accepted L dropFrame = popFrame L
-accepted L (handBack s b) = fillSlot (popFrame L) b (slot L s)
+accepted L (dropFrame f) = popFrame L
+accepted L (handBack s b f) = fillSlot (popFrame L) b (slot L s)
 accepted L (allocate s r k) = fillSlot (addObject L r k) s (length (L .objects) + 1)
 accepted L (first s r) = fillSlot L s ((region (L .regions) r) .oldest)
 accepted L (copy s t) = fillSlot L t (slot L s)
 accepted L (fetch b s) = fillSlot L s (getD (beneath L) b 0)
 accepted L (clear s) = fillSlot L s 0
 accepted L (load s w t) = fillSlot L t (getD ((inSlot L s) .words) w 0)
-accepted L (setPointer s w v) = writeWord L s w (slot L v)
+accepted L (setPointer s w v f) = writeWord L s w (slot L v)
 accepted L (put s w x) = writeWord L s w x
 accepted L (get s w) = L
 accepted L (view s) = L
@@ -253,8 +257,8 @@ accepted L (about s) = L
 accepted L (report r) = L
 accepted L totals = L
 accepted L audit = L
-accepted L (delete r) = removeRegions L (r ∷ [])
-accepted L (deleteAll rs) = removeRegions L rs
+accepted L (delete r f) = removeRegions L (r ∷ [])
+accepted L (deleteAll rs f) = removeRegions L rs
 accepted L (ask q) = L
 
 -- ---- Each call, and lists of calls. A refused call answers its number and changes nothing

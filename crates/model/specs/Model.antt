@@ -42,20 +42,21 @@ pub data Query : Type 0 where
   locate : ℕ → Query
 
 -- The calls numbered 2 to 23, in that order, each with its arguments in document 01's order; then, numbered from 24 on, those of document 02's cards: delete_all (card 2), and those that only ask.
+-- The last number of dropFrame, handBack, setPointer, delete and deleteAll is the filler that the call acts for (document 02, card 5).
 pub data Call : Type 0 where
   declare : List ℕ → Call
   newRegion : Call
   subregion : ℕ → Call
   push : ℕ → Call
-  dropFrame : Call
-  handBack : ℕ → ℕ → Call
+  dropFrame : ℕ → Call
+  handBack : ℕ → ℕ → ℕ → Call
   allocate : ℕ → ℕ → ℕ → Call
   first : ℕ → ℕ → Call
   copy : ℕ → ℕ → Call
   fetch : ℕ → ℕ → Call
   clear : ℕ → Call
   load : ℕ → ℕ → ℕ → Call
-  setPointer : ℕ → ℕ → ℕ → Call
+  setPointer : ℕ → ℕ → ℕ → ℕ → Call
   put : ℕ → ℕ → ℕ → Call
   get : ℕ → ℕ → Call
   view : ℕ → Call
@@ -64,8 +65,8 @@ pub data Call : Type 0 where
   report : ℕ → Call
   totals : Call
   audit : Call
-  delete : ℕ → Call
-  deleteAll : List ℕ → Call
+  delete : ℕ → ℕ → Call
+  deleteAll : List ℕ → ℕ → Call
   ask : Query → Call
 
 -- What a call answers: the number of its refusal, 0 if accepted; four values, 0 where there is none; and the words that view hands back.

@@ -37,8 +37,8 @@ abbrev pub document : Row
 document = record {
   lent = 2 * 64;
   calls =
-      declare (1 ∷ 0 ∷ []) ∷ push 2 ∷ newRegion ∷ allocate 0 1 1 ∷ allocate 1 2 1 ∷ setPointer 0 0 1 ∷ report 2 ∷ clear 1 ∷ delete 2
-      ∷ setPointer 0 0 1 ∷ delete 2 ∷ newRegion ∷ report 2 ∷ allocate 1 3 1 ∷ dropFrame ∷ [];
+      declare (1 ∷ 0 ∷ []) ∷ push 2 ∷ newRegion ∷ allocate 0 1 1 ∷ allocate 1 2 1 ∷ setPointer 0 0 1 0 ∷ report 2 ∷ clear 1 ∷ delete 2 0
+      ∷ setPointer 0 0 1 0 ∷ delete 2 0 ∷ newRegion ∷ report 2 ∷ allocate 1 3 1 ∷ dropFrame 0 ∷ [];
   skip = 0;
   prints =
       line 1 0 0 0 0 0
@@ -81,7 +81,7 @@ fourFit = record {
 abbrev pub full : Row
 full = record {
   lent = 64;
-  calls = declare (replicate 15 0) ∷ push 1 ∷ newRegion ∷ replicate 5 (allocate 0 2 1) ++ (clear 0 ∷ delete 2 ∷ newRegion ∷ allocate 0 3 1 ∷ []);
+  calls = declare (replicate 15 0) ∷ push 1 ∷ newRegion ∷ replicate 5 (allocate 0 2 1) ++ (clear 0 ∷ delete 2 0 ∷ newRegion ∷ allocate 0 3 1 ∷ []);
   skip = 7;
   prints = line 8 0 0 0 0 0 ∷ line 9 13 0 0 0 0 ∷ line 10 0 0 0 0 0 ∷ line 11 0 1 0 0 0 ∷ line 12 0 3 0 0 0 ∷ line 13 0 0 0 0 0 ∷ [];
 }
@@ -90,7 +90,7 @@ full = record {
 abbrev pub itself : Row
 itself = record {
   lent = 64;
-  calls = declare (1 ∷ []) ∷ push 1 ∷ newRegion ∷ allocate 0 2 1 ∷ report 2 ∷ setPointer 0 0 0 ∷ report 2 ∷ [];
+  calls = declare (1 ∷ []) ∷ push 1 ∷ newRegion ∷ allocate 0 2 1 ∷ report 2 ∷ setPointer 0 0 0 0 ∷ report 2 ∷ [];
   skip = 5;
   prints = line 6 0 0 1 1 0 ∷ line 7 0 0 0 0 0 ∷ line 8 0 0 1 1 0 ∷ [];
 }
@@ -99,7 +99,7 @@ itself = record {
 abbrev pub upward : Row
 upward = record {
   lent = 2 * 64;
-  calls = declare (3 ∷ []) ∷ push 2 ∷ subregion 1 ∷ allocate 0 2 1 ∷ allocate 1 1 1 ∷ report 1 ∷ setPointer 0 0 1 ∷ report 1 ∷ [];
+  calls = declare (3 ∷ []) ∷ push 2 ∷ subregion 1 ∷ allocate 0 2 1 ∷ allocate 1 1 1 ∷ report 1 ∷ setPointer 0 0 1 0 ∷ report 1 ∷ [];
   skip = 6;
   prints = line 7 0 0 1 1 1 ∷ line 8 0 0 0 0 0 ∷ line 9 0 0 1 1 1 ∷ [];
 }
@@ -112,7 +112,7 @@ frames33 = record { lent = 64; calls = replicate 33 (push 1); skip = 32; prints 
 abbrev pub subFirst : Row
 subFirst = record {
   lent = 64;
-  calls = declare (1 ∷ []) ∷ push 1 ∷ newRegion ∷ subregion 2 ∷ allocate 0 2 1 ∷ delete 2 ∷ delete 3 ∷ delete 2 ∷ [];
+  calls = declare (1 ∷ []) ∷ push 1 ∷ newRegion ∷ subregion 2 ∷ allocate 0 2 1 ∷ delete 2 0 ∷ delete 3 0 ∷ delete 2 0 ∷ [];
   skip = 6;
   prints = line 7 18 0 0 0 0 ∷ line 8 0 0 0 0 0 ∷ line 9 19 0 0 0 0 ∷ [];
 }
@@ -121,7 +121,7 @@ subFirst = record {
 abbrev pub mFalls : Row
 mFalls = record {
   lent = 64;
-  calls = push 1 ∷ push 1 ∷ push 1 ∷ newRegion ∷ delete 2 ∷ totals ∷ dropFrame ∷ totals ∷ [];
+  calls = push 1 ∷ push 1 ∷ push 1 ∷ newRegion ∷ delete 2 0 ∷ totals ∷ dropFrame 0 ∷ totals ∷ [];
   skip = 5;
   prints = line 6 0 0 0 0 0 ∷ line 7 0 1 1 3 2 ∷ line 8 0 2 0 0 0 ∷ line 9 0 1 1 2 1 ∷ [];
 }

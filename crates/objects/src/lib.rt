@@ -65,25 +65,33 @@ pub fn fitting(declared: u32, sizes: &[u8], object: &[u32], n: usize) -> u32
     if 1 + (s as usize) <= n { s } else { 0 }
 }
 
-// The counts without a pointer of the region `own`; one that leads into that region itself is in no count.
-fn leave_word(owners: &[u8], counts: &mut [u32], own: u32, v: u32)
-    ensures { λ _. ⌜ now (counts .exit) ≡ leavings (now (counts .entry)) (outOf (now (owners .entry)) own (v ∷ [])) ⌝ }
+// The shares without a pointer of the region `own`, which leaves that filler's; one that leads into that region itself is in no count.
+fn leave_word(owners: &[u8], shares: &mut [u32], filler: u32, own: u32, v: u32)
+    ensures { λ _. ⌜ now (shares .exit) ≡ leavings filler (now (shares .entry)) (outOf (now (owners .entry)) own (v ∷ [])) ⌝ }
 {
     let t = pages::owner_of(owners, v);
     if t != own {
-        regions::leave(counts, t);
+        regions::leave(shares, filler, t);
     }
 }
 
-// The counts without those of an object's first n words that are marked 1.
-fn leave_words(marks: &[u8], object: &[u32], n: u32, owners: &[u8], counts: &mut [u32], own: u32)
-    ensures { λ _. ⌜ now (counts .exit) ≡ leavings (now (counts .entry)) (outOf (now (owners .entry)) own (freeWordsIn (now (marks .entry)) (now (object .entry)) n)) ⌝ }
+// The shares without those of an object's first n words that are marked 1.
+fn leave_words(
+    marks: &[u8],
+    object: &[u32],
+    n: u32,
+    owners: &[u8],
+    shares: &mut [u32],
+    filler: u32,
+    own: u32,
+)
+    ensures { λ _. ⌜ now (shares .exit) ≡ leavings filler (now (shares .entry)) (outOf (now (owners .entry)) own (freeWordsIn (now (marks .entry)) (now (object .entry)) n)) ⌝ }
 {
     let kind = kind_of(object);
     let mut w: u32 = 0;
     while w < n {
         if kinds::mark_at(marks, kind, w) == 1 {
-            leave_word(owners, counts, own, word_at(object, w));
+            leave_word(owners, shares, filler, own, word_at(object, w));
         }
         w += 1;
     }
@@ -98,10 +106,11 @@ pub fn leave_page<'a>(
     owners: &[u8],
     j: u32,
     n: u32,
-    counts: &mut [u32],
+    shares: &mut [u32],
+    filler: u32,
     own: u32,
 )
-    ensures { λ _. ⌜ (n ≤ 64 → now (counts .exit) ≡ leavings (now (counts .entry)) (outOf (now (owners .entry)) own (freeWordsTo (kindsWith declared (now (sizes .entry)) (now (marks .entry))) (now (heap .entry)) j n))) ⌝ }
+    ensures { λ _. ⌜ (n ≤ 64 → now (shares .exit) ≡ leavings filler (now (shares .entry)) (outOf (now (owners .entry)) own (freeWordsTo (kindsWith declared (now (sizes .entry)) (now (marks .entry))) (now (heap .entry)) j n))) ⌝ }
 {
     let mut at = 64 * (j as usize);
     let end = at + (n as usize);
@@ -111,7 +120,7 @@ pub fn leave_page<'a>(
         if s == 0 {
             break;
         }
-        leave_words(marks, object, s, owners, counts, own);
+        leave_words(marks, object, s, owners, shares, filler, own);
         at = at + 1 + (s as usize);
     }
 }

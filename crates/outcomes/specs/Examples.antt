@@ -1,10 +1,13 @@
 -- Memories written out: one that the audit accepts, some like it with a longer way up, one with free pages between those held; for each clause of Sound some that break it, and some that differ only where nothing is read.
--- The first has two pages, regions 1 and 5 (5 below 1), four objects, two frames of which one is counted. Entries not in use hold 77 or 99.
+-- The first has two pages, regions 1 and 5 (5 below 1), four objects, two frames of which one is counted. Entries not in use hold 77 or 99, or shares that come to 77. Each count is kept in
+-- four shares, of which none is the count (document 02, card 5).
 -- Assumes nothing.
-use mathlib.Core.List.{List, [], _∷_, _++_}
-use Prim.Native.Nat.{ℕ}
+use mathlib.Core.List.{List, [], _∷_, _++_, map}
+use Prim.Native.Nat.{ℕ, _+_}
 use lib.ListN.{set, take, replicate}
-use Rattle.regions.specs.Regions.{withRegion}
+use lib.Seq.{sets}
+use Rattle.lists.specs.Lists.{joined, upTo}
+use Rattle.regions.specs.Regions.{countAt, withRegion}
 use Rattle.outcomes.specs.Store.{Store, frames, kinds, regions, pages}
 use Rattle.outcomes.specs.Outcome.{withFrames, withKinds, withRegions, withPages, withHeap}
 
@@ -24,7 +27,7 @@ sz = 2 ∷ 3 ∷ 2 ∷ replicate 13 77
 abbrev mk : List ℕ
 mk = (1 ∷ 0 ∷ replicate 14 77) ++ (2 ∷ 3 ∷ 4 ∷ replicate 13 77) ++ (0 ∷ 0 ∷ replicate 222 77)
 
--- names, parents, levels, counts, newest, oldest: region 1 at entry 0, region 5 at entry 2, entry 1 not in use
+-- names, parents, levels, counts (which shares below come to), newest, oldest: region 1 at entry 0, region 5 at entry 2, entry 1 not in use
 abbrev nm : List ℕ
 nm = 1 ∷ 0 ∷ 5 ∷ replicate 61 0
 
@@ -36,6 +39,13 @@ lv = 1 ∷ 77 ∷ 2 ∷ replicate 61 77
 
 abbrev ct : List ℕ
 ct = 2 ∷ 77 ∷ 2 ∷ replicate 61 77
+
+-- shares that come to these counts: of a count c they are c + 5, 2^32 - 3, 7 and 2^32 - 9; and shares that filler f alone has
+abbrev wild : List ℕ → List ℕ
+wild cs = joined (λ c. (c + 5) ∷ 4294967293 ∷ 7 ∷ 4294967287 ∷ []) cs
+
+abbrev alone : ℕ → List ℕ → List ℕ
+alone f cs = joined (λ c. set (replicate 4 0) f c) cs
 
 abbrev nw : List ℕ
 nw = 1 ∷ 77 ∷ 2 ∷ replicate 61 77
@@ -73,7 +83,7 @@ small = record {
   state = record {
     frames = record { standing = 2; counted = 1; widths = ws; slots = sl };
     kinds = record { declared = 3; sizes = sz; marks = mk };
-    regions = record { given = 7; names = nm; parents = pa; levels = lv; counts = ct; newest = nw; oldest = ol };
+    regions = record { given = 7; names = nm; parents = pa; levels = lv; shares = wild ct; newest = nw; oldest = ol };
     pages = record { made = 2; owners = ow; taken = tk };
   };
   heap = hp;
@@ -90,7 +100,7 @@ abbrev kindsBy : Store → ℕ → List ℕ → List ℕ → Store
 kindsBy S n z k = withKinds S (record { declared = n; sizes = z; marks = k })
 
 abbrev regionsBy : Store → ℕ → List ℕ → List ℕ → List ℕ → List ℕ → List ℕ → List ℕ → Store
-regionsBy S g n p l c e o = withRegions S (record { given = g; names = n; parents = p; levels = l; counts = c; newest = e; oldest = o })
+regionsBy S g n p l c e o = withRegions S (record { given = g; names = n; parents = p; levels = l; shares = c; newest = e; oldest = o })
 
 abbrev pagesBy : Store → ℕ → List ℕ → List ℕ → Store
 pagesBy S n o t = withPages S (record { made = n; owners = o; taken = t })
@@ -122,25 +132,29 @@ abbrev pub setMarks : List ℕ → Store → Store
 setMarks x S = let k = kinds S in kindsBy S (k .declared) (k .sizes) x
 
 abbrev pub setGiven : ℕ → Store → Store
-setGiven x S = let r = regions S in regionsBy S x (r .names) (r .parents) (r .levels) (r .counts) (r .newest) (r .oldest)
+setGiven x S = let r = regions S in regionsBy S x (r .names) (r .parents) (r .levels) (r .shares) (r .newest) (r .oldest)
 
 abbrev pub setNames : List ℕ → Store → Store
-setNames x S = let r = regions S in regionsBy S (r .given) x (r .parents) (r .levels) (r .counts) (r .newest) (r .oldest)
+setNames x S = let r = regions S in regionsBy S (r .given) x (r .parents) (r .levels) (r .shares) (r .newest) (r .oldest)
 
 abbrev pub setParents : List ℕ → Store → Store
-setParents x S = let r = regions S in regionsBy S (r .given) (r .names) x (r .levels) (r .counts) (r .newest) (r .oldest)
+setParents x S = let r = regions S in regionsBy S (r .given) (r .names) x (r .levels) (r .shares) (r .newest) (r .oldest)
 
 abbrev pub setLevels : List ℕ → Store → Store
-setLevels x S = let r = regions S in regionsBy S (r .given) (r .names) (r .parents) x (r .counts) (r .newest) (r .oldest)
+setLevels x S = let r = regions S in regionsBy S (r .given) (r .names) (r .parents) x (r .shares) (r .newest) (r .oldest)
 
+abbrev pub setShares : List ℕ → Store → Store
+setShares x S = let r = regions S in regionsBy S (r .given) (r .names) (r .parents) (r .levels) x (r .newest) (r .oldest)
+
+-- the counts x, in wild shares
 abbrev pub setCounts : List ℕ → Store → Store
-setCounts x S = let r = regions S in regionsBy S (r .given) (r .names) (r .parents) (r .levels) x (r .newest) (r .oldest)
+setCounts x S = setShares (wild x) S
 
 abbrev pub setNewest : List ℕ → Store → Store
-setNewest x S = let r = regions S in regionsBy S (r .given) (r .names) (r .parents) (r .levels) (r .counts) x (r .oldest)
+setNewest x S = let r = regions S in regionsBy S (r .given) (r .names) (r .parents) (r .levels) (r .shares) x (r .oldest)
 
 abbrev pub setOldest : List ℕ → Store → Store
-setOldest x S = let r = regions S in regionsBy S (r .given) (r .names) (r .parents) (r .levels) (r .counts) (r .newest) x
+setOldest x S = let r = regions S in regionsBy S (r .given) (r .names) (r .parents) (r .levels) (r .shares) (r .newest) x
 
 abbrev pub setMade : ℕ → Store → Store
 setMade x S = let p = pages S in pagesBy S x (p .owners) (p .taken)
@@ -156,13 +170,17 @@ setHeap x S = withHeap S x
 
 -- of a memory that a delete left: the counts and the names of the first four entries, the owners of the first four pages, m
 abbrev pub reads : Store → List (List ℕ)
-reads S = take 4 ((regions S) .counts) ∷ take 4 ((regions S) .names) ∷ take 4 ((pages S) .owners) ∷ ((frames S) .counted ∷ []) ∷ []
+reads S = map (countAt (regions S)) (upTo 4) ∷ take 4 ((regions S) .names) ∷ take 4 ((pages S) .owners) ∷ ((frames S) .counted ∷ []) ∷ []
 
 -- ---- memories
 
 -- `small` with a region more, named 8, which has no page yet
 abbrev pub grown : Store
 grown = withRegions small (withRegion (regions small) 1 0 1)
+
+-- the same with these four shares of region 8, to which nothing leads (document 02, card 5)
+abbrev pub shared : List ℕ → Store
+shared cs = grown but setShares (sets ((regions grown) .shares) 4 cs)
 
 -- `small` with regions 3 and 7 too, which have no page: regions 1, 3, 5 and 7 at entries 0 to 3, given the tags of the regions above (ps) and the levels (ls). The word marked 3 leads from
 -- region 5 to region 1 (document 02, card 1)
@@ -206,6 +224,13 @@ examples =
     ∷ example (small but setCounts (set ct 0 1)) (0 ∷ [])
     -- a stored count one too high
     ∷ example (small but setCounts (set ct 2 3)) (0 ∷ [])
+    -- the count of region 1 in the share of filler 0, and more in that of filler 2; in the share of filler 3, and 2^32 - 1 in that of filler 0
+    ∷ example (small but setShares (set (alone 0 ct) 2 1)) (0 ∷ [])
+    ∷ example (small but setShares (set (alone 3 ct) 0 4294967295)) (0 ∷ [])
+    -- the first three shares of region 5 come to its count, and the fourth is not 0
+    ∷ example (small but setShares (set (alone 1 ct) 11 77)) (0 ∷ [])
+    -- a count of 1 of a region to which nothing leads
+    ∷ example (shared (0 ∷ 0 ∷ 1 ∷ 0 ∷ [])) (0 ∷ [])
     -- a slot that leads to no header
     ∷ example (small but setSlots (set sl 8 67)) (1 ∷ [])
     -- a slot that leads to a header on a free page
@@ -289,6 +314,11 @@ examples =
     ∷ example (small but setGiven 16 but setNames (set chain 16 0) but setParents above but setLevels chain but setCounts (set (2 ∷ replicate 63 0) 15 2) but setNewest (set (1 ∷ replicate 63 0) 15 2) but setOldest (set (1 ∷ replicate 63 0) 15 65) but setOwners (set ow 1 16)) []
     -- entries not in use may hold anything: other slots, marks, region entries, owners and taken words past the pages made, words past those taken
     ∷ example (small but setSlots (set (set sl 2 1) 16 5) but setMarks (set mk 2 9) but setParents (set pa 1 0) but setLevels (set lv 1 99) but setCounts (set ct 1 5) but setOwners (set ow 2 1) but setTaken (set tk 5 3) but setHeap (set (set hp 6 1) 127 65)) []
+    -- counts that one filler has alone, whichever
+    ∷ example (small but setShares (alone 0 ct)) []
+    ∷ example (small but setShares (alone 3 ct)) []
+    -- a count of 0 in shares of which two are not 0
+    ∷ example (shared (3 ∷ 4294967293 ∷ 0 ∷ 0 ∷ [])) []
     -- a region without newest page or oldest object entered
     ∷ example (small but setNewest (set nw 2 0) but setOldest (set ol 2 0)) []
     -- a newest page or oldest object that is its own, whichever

@@ -8,15 +8,15 @@ use Prim.Native.Nat.{ℕ, zero, suc, _+_, _-_, _*_, _/_}
 use lib.Dec.{eqb, ltb, leb}
 use lib.ListN.{length, set, take, drop, replicate}
 use lib.Seq.{sets}
-use Rattle.lists.specs.Lists.{bit, pick, anyOf, sumOf, joined, from, among}
+use Rattle.lists.specs.Lists.{bit, pick, anyOf, sumOf, joined, from, times, among}
 use Rattle.model.specs.Model.{Answer, Call, declare, newRegion, subregion, push, dropFrame, handBack, allocate, first, copy, fetch, clear, load, setPointer, put, get, view, same, about, report, totals, audit, delete, deleteAll, Query, locate, ask, four, gives, refusedBy}
-use Rattle.model.specs.Calls.{reason, _yields_, wrongNames, nameTests, makes}
+use Rattle.model.specs.Calls.{reason, _yields_, noFiller, wrongNames, nameTests, makes}
 use Rattle.frames.specs.declared.Frames.{Frames}
 use Rattle.frames.specs.Frames.{frameCountIn, topFrame, widthAt, slotAt, putSlot, pushed, uncounts, popped, raised}
 use Rattle.kinds.specs.declared.Kinds.{Kinds}
 use Rattle.kinds.specs.Kinds.{kindCount, sizeOf, withKind, wrongMarks, allData as onlyData}
 use Rattle.regions.specs.declared.Regions.{Regions}
-use Rattle.regions.specs.Regions.{nameOf, entryOf, tagOf, isLive, liveCount, subregionsOf, closedIn, levelAt, newestAt, oldestAt, countAt, unused, withRegion, withoutRegions, withPage, recount}
+use Rattle.regions.specs.Regions.{nameOf, entryOf, tagOf, isLive, liveCount, subregionsOf, closedIn, levelAt, newestAt, oldestAt, countAt, unused, withRegion, withoutRegions, withPage, rolled, recount}
 use Rattle.pages.specs.declared.Pages.{Pages}
 use Rattle.pages.specs.Pages.{wrongLength, takenAt, ownerOf, pageOf, wordOf, firstFree, pagesOf, withTaken, freed}
 use Rattle.objects.specs.Objects.{kindOf, wordCount, markOf, wordAt, freeWordsOf, outOf}
@@ -78,7 +78,7 @@ outgoing S ts = joined (λ t. outOf ((pages S) .owners) t (freeWordsOf (kinds S)
 -- the stored count of the region at entry i, once those words are counted no more. On audited memory what is left are slots of counted frames, and words of regions that are
 -- none of them (document 02, card 2, on 19)
 unfoldable pub countBut : Store → List ℕ → ℕ → ℕ
-countBut S ts i = countAt (recount (regions S) [] (outgoing S ts)) i
+countBut S ts i = rolled (countAt (regions S) i) 0 (times (suc i) (outgoing S ts))
 
 -- the tests of calls that only ask, after the one of the heap's length (document 02, card 4, on locate)
 unfoldable pub queryChecks : Store → Query → List (Bool × ℕ)
@@ -89,8 +89,8 @@ checks S (declare ms) = badLength S yields 21 ∷ wrongMarks ms yields 11 ∷ le
 checks S newRegion = badLength S yields 21 ∷ full S yields 4 ∷ namesOut S yields 5 ∷ []
 checks S (subregion r) = badLength S yields 21 ∷ dead S r yields 2 ∷ leb 16 (levelAt (regions S) (entryOf (regions S) r)) yields 20 ∷ full S yields 4 ∷ namesOut S yields 5 ∷ []
 checks S (push n) = badLength S yields 21 ∷ (eqb n 0 || ltb 8 n) yields 8 ∷ leb 32 ((frames S) .standing) yields 7 ∷ []
-checks S dropFrame = badLength S yields 21 ∷ noFrame S yields 6 ∷ []
-checks S (handBack s b) = badLength S yields 21 ∷ oneFrame S yields 6 ∷ (lacks S s || lacksBeneath S b) yields 9 ∷ []
+checks S (dropFrame f) = badLength S yields 21 ∷ noFiller f yields 23 ∷ noFrame S yields 6 ∷ []
+checks S (handBack s b f) = badLength S yields 21 ∷ noFiller f yields 23 ∷ oneFrame S yields 6 ∷ (lacks S s || lacksBeneath S b) yields 9 ∷ []
 checks S (allocate s r k) =
     badLength S yields 21 ∷ noFrame S yields 6 ∷ lacks S s yields 9 ∷ dead S r yields 2 ∷ (eqb k 0 || ltb (kindCount (kinds S)) k) yields 12
     ∷ (not (roomy S (entryOf (regions S) r) (size S k)) && eqb (pagesOf (pages S) 0) 0) yields 13 ∷ []
@@ -99,8 +99,8 @@ checks S (copy s t) = badLength S yields 21 ∷ noFrame S yields 6 ∷ (lacks S 
 checks S (fetch b s) = badLength S yields 21 ∷ oneFrame S yields 6 ∷ (lacksBeneath S b || lacks S s) yields 9 ∷ []
 checks S (clear s) = badLength S yields 21 ∷ noFrame S yields 6 ∷ lacks S s yields 9 ∷ []
 checks S (load s w t) = badLength S yields 21 ∷ noFrame S yields 6 ∷ (lacks S s || lacks S t) yields 9 ∷ eqb (slot S s) 0 yields 14 ∷ noWord S s w yields 15 ∷ isData S s w yields 16 ∷ []
-checks S (setPointer s w v) =
-    badLength S yields 21 ∷ noFrame S yields 6 ∷ (lacks S s || lacks S v) yields 9 ∷ eqb (slot S s) 0 yields 14 ∷ noWord S s w yields 15 ∷ isData S s w yields 16
+checks S (setPointer s w v f) =
+    badLength S yields 21 ∷ noFiller f yields 23 ∷ noFrame S yields 6 ∷ (lacks S s || lacks S v) yields 9 ∷ eqb (slot S s) 0 yields 14 ∷ noWord S s w yields 15 ∷ isData S s w yields 16
     ∷ breaks S (slot S s) w (slot S v) yields 17 ∷ []
 checks S (put s w x) = badLength S yields 21 ∷ noFrame S yields 6 ∷ lacks S s yields 9 ∷ eqb (slot S s) 0 yields 14 ∷ noWord S s w yields 15 ∷ not (isData S s w) yields 16 ∷ []
 checks S (get s w) = badLength S yields 21 ∷ noFrame S yields 6 ∷ lacks S s yields 9 ∷ eqb (slot S s) 0 yields 14 ∷ noWord S s w yields 15 ∷ not (isData S s w) yields 16 ∷ []
@@ -111,14 +111,14 @@ checks S (report r) = badLength S yields 21 ∷ dead S r yields 2 ∷ []
 checks S totals = []
 checks S audit = []
 -- 19: the stored count has the outside pointers in words and counted frames, and the look finds the rest. On audited memory the two are just those that there are
-checks S (delete r) =
-    badLength S yields 21 ∷ dead S r yields 2 ∷ eqb r 1 yields 3 ∷ not (eqb (subregionsOf (regions S) (tagOf (regions S) r)) 0) yields 18
+checks S (delete r f) =
+    badLength S yields 21 ∷ noFiller f yields 23 ∷ dead S r yields 2 ∷ eqb r 1 yields 3 ∷ not (eqb (subregionsOf (regions S) (tagOf (regions S) r)) 0) yields 18
     ∷ (not (eqb (countAt (regions S) (entryOf (regions S) r)) 0) || ledInto S (tagOf (regions S) r)) yields 19 ∷ []
 -- 18 and 19 by the tags of those named (document 02, card 2). 19: some member's count has a pointer left, or the look over the uncounted frames, once for all of them, finds a slot
-checks S (deleteAll rs) =
+checks S (deleteAll rs f) =
     let g = regions S in
     let ts = map (tagOf g) rs in
-    badLength S yields 21 ∷ wrongNames rs yields 22 ∷ nameTests (dead S) rs
+    badLength S yields 21 ∷ noFiller f yields 23 ∷ wrongNames rs yields 22 ∷ nameTests (dead S) rs
     ++ (not (closedIn (g .names) (g .parents) (λ t. among t ts)) yields 18 ∷ (anyOf (λ r. not (eqb (countBut S ts (entryOf g r)) 0)) rs || ledAmong S ts) yields 19 ∷ [])
 checks S (ask q) = badLength S yields 21 ∷ queryChecks S q
 
@@ -150,24 +150,24 @@ fillSlot S s v = withFrames S (putSlot (frames S) (topFrame (frames S)) s v)
 unfoldable pub writeWord : Store → ℕ → ℕ → ℕ → Store
 writeWord S v w x = withHeap S (set (S .heap) (v + w) x)
 
--- pointers into the regions `come` are counted too, pointers into the regions `gone` no more
-unfoldable pub recounted : Store → List ℕ → List ℕ → Store
-recounted S come gone = withRegions S (recount (regions S) come gone)
+-- pointers into the regions `come` are counted too, pointers into the regions `gone` no more, in the shares of filler f (document 02, card 5)
+unfoldable pub recounted : Store → ℕ → List ℕ → List ℕ → Store
+recounted S f come gone = withRegions S (recount (regions S) f come gone)
 
 -- the regions that a pointer v is counted in, held by a word marked k of an object of the region with tag h: none for its own, and none unless k is 1
 unfoldable pub countedIn : Store → ℕ → ℕ → ℕ → List ℕ
 countedIn S k h v = pick (eqb k 1 && not (eqb (ownerOf (pages S) v) h)) (ownerOf (pages S) v ∷ []) []
 
--- the top frame goes; if the frame then on top was counted, its pointers leave the counts (document 01, The store, on m)
-unfoldable pub popFrame : Store → Store
-popFrame S = withFrames (recounted S [] (pick (uncounts (frames S)) (slotTargets S (topFrame (frames S) - 1)) [])) (popped (frames S))
+-- the top frame goes; if the frame then on top was counted, its pointers leave the counts, in filler f's shares (document 01, The store, on m)
+unfoldable pub popFrame : Store → ℕ → Store
+popFrame S f = withFrames (recounted S f [] (pick (uncounts (frames S)) (slotTargets S (topFrame (frames S) - 1)) [])) (popped (frames S))
 
--- the word of a set pointer moves from the old pointer to the new one (document 01, Set pointer)
-unfoldable pub pointed : Store → ℕ → ℕ → ℕ → Store
-pointed S v w x =
+-- the word of a set pointer moves from the old pointer to the new one, and filler f's shares with it (document 01, Set pointer)
+unfoldable pub pointed : Store → ℕ → ℕ → ℕ → ℕ → Store
+pointed S v w x f =
     let k = markOf (kinds S) (S .heap) v w in
     let h = ownerOf (pages S) v in
-    writeWord (recounted S (countedIn S k h x) (countedIn S k h (wordAt (S .heap) v w))) v w x
+    writeWord (recounted S f (countedIn S k h x) (countedIn S k h (wordAt (S .heap) v w))) v w x
 
 -- the page of an object of n words, its header too, made for the region at entry i: the region's newest, if they fit there, else the lowest free one (document 01, The store, on objects; document 02, card 4)
 unfoldable pub pageFor : Store → ℕ → ℕ → ℕ
@@ -194,12 +194,12 @@ newlyIn standing counted widths slots owners = joined (targetsIn widths slots ow
 unfoldable pub newlyCounted : Store → List ℕ
 newlyCounted S = let f = frames S in newlyIn (f .standing) (f .counted) (f .widths) (f .slots) ((pages S) .owners)
 
--- the regions named rs go: their outgoing pointers leave the counts, those newly counted enter them, the pages are free, the entries are given up, m is raised; the heap stays
+-- the regions named rs go: their outgoing pointers leave the counts, those newly counted enter them, both in filler f's shares, the pages are free, the entries are given up, m is raised; the heap stays
 -- (document 01, Delete, where it is one region; document 02, card 2)
-unfoldable pub deleted : Store → List ℕ → Store
-deleted S rs =
+unfoldable pub deleted : Store → List ℕ → ℕ → Store
+deleted S rs f =
     let ts = map (tagOf (regions S)) rs in
-    let T = recounted S (newlyCounted S) (outgoing S ts) in
+    let T = recounted S f (newlyCounted S) (outgoing S ts) in
     let U = withRegions T (withoutRegions (regions T) (map (entryOf (regions S)) rs)) in
     withFrames (withPages U (freed (pages S) ts)) (raised (frames S))
 
@@ -227,8 +227,8 @@ Accepted (subregion r) S a T =
     let g = regions S in
     Leaves a (gives ((g .given + 1) ∷ [])) T (withRegions S (withRegion g (unused g) (tagOf g r) (levelAt g (entryOf g r) + 1)))
 Accepted (push n) S a T = Leaves a (gives (((frames S) .standing + 1) ∷ [])) T (withFrames S (pushed (frames S) n))
-Accepted dropFrame S a T = Leaves a (gives (topFrame (frames S) ∷ [])) T (popFrame S)
-Accepted (handBack s b) S a T = Leaves a (gives (topFrame (frames S) ∷ [])) T (fillSlot (popFrame S) b (slot S s))
+Accepted (dropFrame f) S a T = Leaves a (gives (topFrame (frames S) ∷ [])) T (popFrame S f)
+Accepted (handBack s b f) S a T = Leaves a (gives (topFrame (frames S) ∷ [])) T (fillSlot (popFrame S f) b (slot S s))
 Accepted (allocate s r k) S a T =
     let i = entryOf (regions S) r in
     Leaves a (gives []) T (allocated S s i k (pageFor S i (size S k)))
@@ -237,7 +237,7 @@ Accepted (copy s t) S a T = Leaves a (gives []) T (fillSlot S t (slot S s))
 Accepted (fetch b s) S a T = Leaves a (gives []) T (fillSlot S s (slotAt (frames S) (topFrame (frames S) - 1) b))
 Accepted (clear s) S a T = Leaves a (gives []) T (fillSlot S s 0)
 Accepted (load s w t) S a T = Leaves a (gives []) T (fillSlot S t (wordAt (S .heap) (slot S s) w))
-Accepted (setPointer s w v) S a T = Leaves a (gives []) T (pointed S (slot S s) w (slot S v))
+Accepted (setPointer s w v f) S a T = Leaves a (gives []) T (pointed S (slot S s) w (slot S v) f)
 Accepted (put s w x) S a T = Leaves a (gives []) T (writeWord S (slot S s) w x)
 Accepted (get s w) S a T = Leaves a (gives (wordAt (S .heap) (slot S s) w ∷ [])) T S
 Accepted (view s) S a T = Leaves a (viewed S (slot S s)) T S
@@ -250,8 +250,8 @@ Accepted (report r) S a T =
 Accepted totals S a T = Leaves a (gives (pagesOf (pages S) 0 ∷ liveCount (regions S) ∷ (frames S) .standing ∷ (frames S) .counted ∷ [])) T S
 -- 1 if the audit's condition holds, else 0
 Accepted audit S a T = Leaves a (gives (bit (sound S) ∷ [])) T S
-Accepted (delete r) S a T = Leaves a (gives (pagesOf (pages S) (tagOf (regions S) r) ∷ [])) T (deleted S (r ∷ []))
-Accepted (deleteAll rs) S a T = Leaves a (gives (sumOf (λ r. pagesOf (pages S) (tagOf (regions S) r)) rs ∷ [])) T (deleted S rs)
+Accepted (delete r f) S a T = Leaves a (gives (pagesOf (pages S) (tagOf (regions S) r) ∷ [])) T (deleted S (r ∷ []) f)
+Accepted (deleteAll rs f) S a T = Leaves a (gives (sumOf (λ r. pagesOf (pages S) (tagOf (regions S) r)) rs ∷ [])) T (deleted S rs f)
 Accepted (ask q) S a T = Leaves a (queryReply S q) T S
 
 -- a refused call answers its number and zeros, and leaves every word as it was
@@ -274,7 +274,7 @@ blank n r = record {
     names = set (replicate 64 0) 0 r;
     parents = replicate 64 0;
     levels = set (replicate 64 0) 0 r;
-    counts = replicate 64 0;
+    shares = replicate 256 0;
     newest = replicate 64 0;
     oldest = replicate 64 0;
   };

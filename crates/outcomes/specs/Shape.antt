@@ -26,7 +26,7 @@ pub record RegionsSized (r : Regions) : Type 0 where
   pub names : length (r .names) ≡ 64
   pub parents : length (r .parents) ≡ 64
   pub levels : length (r .levels) ≡ 64
-  pub counts : length (r .counts) ≡ 64
+  pub shares : length (r .shares) ≡ 256
   pub newest : length (r .newest) ≡ 64
   pub oldest : length (r .oldest) ≡ 64
 
@@ -67,7 +67,7 @@ pub record RegionsBounded (r : Regions) : Type 0 where
   pub names : Bits32 (r .names)
   pub parents : Bits8 (r .parents)
   pub levels : Bits8 (r .levels)
-  pub counts : Bits32 (r .counts)
+  pub shares : Bits32 (r .shares)
   pub newest : Bits16 (r .newest)
   pub oldest : Bits32 (r .oldest)
 

@@ -1,22 +1,23 @@
 // The region entries, a part of the state held by value. The functions take what they read: numbers, and arrays lent.
 ghost use mathlib.Core.Path.{_≡_};
 ghost use mathlib.Core.List.{map};
-ghost use Prim.Native.Nat.{_+_, _%_, min};
-ghost use lib.ListN.{getD, set};
+ghost use Prim.Native.Nat.{_+_, _*_, _%_, min};
+ghost use lib.ListN.{getD, set, replicate};
+ghost use lib.Seq.{sets};
 ghost use Rattle.lists.specs.Lists.{among};
 ghost use Rattle.model.specs.Model.{climb};
-ghost use Rattle.regions.specs.Regions.{nameIn, entryIn, unusedIn, liveIn, subregionsIn, upIn, levelIn, allowsIn};
-ghost use Rattle.regions.specs.Laws.Counts.{Counts};
+ghost use Rattle.regions.specs.Regions.{nameIn, entryIn, unusedIn, liveIn, subregionsIn, upIn, levelIn, allowsIn, shareIn, countIn};
+ghost use Rattle.regions.specs.Laws.Counts.{Shares};
 ghost use Rattle.regions.specs.Laws.Steps.{entering, leaving};
 
 // names: 0 for an entry not in use. parents: the entry above plus 1, 0 for none. newest: a page plus 1, 0 for none.
-// oldest: a pointer, 0 for none. `given` is the last name given.
+// oldest: a pointer, 0 for none. shares: filler f's share of the count of entry i at 4 i + f. `given` is the last name given.
 pub struct Regions {
     pub given: u32,
     pub names: [u32; 64],
     pub parents: [u8; 64],
     pub levels: [u8; 64],
-    pub counts: [u32; 64],
+    pub shares: [u32; 256],
     pub newest: [u16; 64],
     pub oldest: [u32; 64],
 }
@@ -170,10 +171,33 @@ pub fn oldest_at(oldest: &[u32], i: u32) -> u32
     cells::word(oldest, i as usize)
 }
 
-pub fn count_at(counts: &[u32], i: u32) -> u32
-    ensures { λ n. ⌜ n ≡ getD (now (counts .entry)) i 0 ⌝ }
+// The share of filler 0 to 3 at entry i. (By the same places a filler above 3 would have one of another entry; no call that is accepted has such a filler.)
+pub fn share_at(shares: &[u32], filler: u32, i: u32) -> u32
+    ensures { λ n. ⌜ n ≡ shareIn (now (shares .entry)) filler i ⌝ }
 {
-    cells::word(counts, i as usize)
+    cells::word(shares, 4 * (i as usize) + (filler as usize))
+}
+
+fn plus(x: u32, y: u32) -> u32
+    ensures { λ r. ⌜ r ≡ (x + y) % 4294967296 ⌝ }
+{
+    std::num::wrapping_add_u32(x, y)
+}
+
+// The stored count of entry i: its four shares, added modulo 2^32.
+pub fn count_at(shares: &[u32], i: u32) -> u32
+    ensures { λ n. ⌜ n ≡ countIn (now (shares .entry)) i ⌝ }
+{
+    let a = plus(share_at(shares, 0, i), share_at(shares, 1, i));
+    let b = plus(share_at(shares, 2, i), share_at(shares, 3, i));
+    plus(a, b)
+}
+
+// The four shares of entry i are 0.
+pub fn clear_shares(shares: &mut [u32; 256], i: u32)
+    ensures { λ _. ⌜ now (shares .exit) ≡ sets (now (shares .entry)) (4 * i) (replicate 4 0) ⌝ }
+{
+    cells::zero(shares, 4 * (i as usize), 4);
 }
 
 // Entry i of one of the arrays gets v.
@@ -195,12 +219,12 @@ pub fn put_byte(a: &mut [u8; 64], i: u32, v: u8)
     cells::store_byte(a, i as usize, v);
 }
 
-// What the types say of the counts. It does nothing: its contract is what it is for.
-pub fn counts_shaped(r: Regions)
-    ensures { λ _. ⌜ Counts (r .counts) ⌝ }
+// What the types say of the shares. It does nothing: its contract is what it is for.
+pub fn shares_shaped(shares: [u32; 256])
+    ensures { λ _. ⌜ Shares shares ⌝ }
 {}
 
-// A count with one more and with one less, modulo 2^32.
+// A share with one more and with one less, modulo 2^32.
 fn up(x: u32) -> u32
     ensures { λ r. ⌜ r ≡ (x + 1) % 4294967296 ⌝ }
 {
@@ -213,25 +237,25 @@ fn down(x: u32) -> u32
     std::num::wrapping_sub_u32(x, 1)
 }
 
-// The counts with one pointer more, and one less, into the region with that tag.
-pub fn enter(counts: &mut [u32], tag: u32)
-    ensures { λ _. ⌜ now (counts .exit) ≡ entering (now (counts .entry)) tag ⌝ }
+// The shares with one pointer more, and one less, into the region with that tag, by that filler, which is 0 to 3.
+pub fn enter(shares: &mut [u32], filler: u32, tag: u32)
+    ensures { λ _. ⌜ now (shares .exit) ≡ entering filler (now (shares .entry)) tag ⌝ }
 {
     if tag == 0 {
         return;
     }
-    let i = (tag - 1) as usize;
-    let v = up(cells::word(counts, i));
-    cells::store(counts, i, v);
+    let p = 4 * ((tag - 1) as usize) + (filler as usize);
+    let v = up(cells::word(shares, p));
+    cells::store(shares, p, v);
 }
 
-pub fn leave(counts: &mut [u32], tag: u32)
-    ensures { λ _. ⌜ now (counts .exit) ≡ leaving (now (counts .entry)) tag ⌝ }
+pub fn leave(shares: &mut [u32], filler: u32, tag: u32)
+    ensures { λ _. ⌜ now (shares .exit) ≡ leaving filler (now (shares .entry)) tag ⌝ }
 {
     if tag == 0 {
         return;
     }
-    let i = (tag - 1) as usize;
-    let v = down(cells::word(counts, i));
-    cells::store(counts, i, v);
+    let p = 4 * ((tag - 1) as usize) + (filler as usize);
+    let v = down(cells::word(shares, p));
+    cells::store(shares, p, v);
 }

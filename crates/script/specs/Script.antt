@@ -1,5 +1,5 @@
 -- What a line of a script says. A line is a list of bytes. Its words are a call's name, or its number (document 01, The calls; from 24 on those of
--- document 02's cards), and the arguments in the documents' order, written in decimal.
+-- document 02's cards), and the arguments in the documents' order, written in decimal. In front may stand `as F`, which names the filler F (document 02, card 5).
 -- Assumes nothing.
 use mathlib.Core.Bool.{Bool, not, _&&_, _||_}
 use mathlib.Core.List.{List, [], _∷_, map}
@@ -7,7 +7,7 @@ use Prim.Native.Nat.{ℕ, suc, _+_, _-_, _*_, min}
 use Prim.Native.Char.{code}
 use Prim.Native.String.{String, [] as []ᵗ, _∷_ as _∷ᵗ_}
 use lib.Dec.{eqb, ltb, leb}
-use lib.ListN.{length, getD, replicate}
+use lib.ListN.{length, getD, drop, replicate}
 use lib.Seq.{sets}
 use Rattle.lists.specs.Lists.{pick, every, equal}
 use Rattle.script.specs.declared.Line.{Line}
@@ -69,14 +69,16 @@ known v = ltb v noNumber
 
 -- ---- calls
 
--- The calls in the order of document 01's numbers, with `pages` in the place of make, and then those of document 02's cards: the name, and the least and the
--- most number of arguments (declare's are its marks and delete_all's its names, 64 at most on a line). A call added later is a row at the end.
-abbrev pub calls : List (String × ℕ × ℕ)
+-- The calls in the order of document 01's numbers, with `pages` in the place of make, and then those of document 02's cards: the name, the least and the
+-- most number of arguments (declare's are its marks and delete_all's its names, 64 at most on a line), and 1 where a filler may be named in front, 0 elsewhere
+-- (document 02, card 5). A call added later is a row at the end.
+abbrev pub calls : List (String × ℕ × ℕ × ℕ)
 calls =
-    ("pages", 1, 1) ∷ ("declare", 0, 64) ∷ ("new_region", 0, 0) ∷ ("subregion", 1, 1) ∷ ("push", 1, 1) ∷ ("drop", 0, 0) ∷ ("hand_back", 2, 2)
-    ∷ ("allocate", 3, 3) ∷ ("first", 2, 2) ∷ ("copy", 2, 2) ∷ ("fetch", 2, 2) ∷ ("clear", 1, 1) ∷ ("load", 3, 3) ∷ ("set_pointer", 3, 3)
-    ∷ ("put", 3, 3) ∷ ("get", 2, 2) ∷ ("view", 1, 1) ∷ ("same", 2, 2) ∷ ("about", 1, 1) ∷ ("report", 1, 1) ∷ ("totals", 0, 0) ∷ ("audit", 0, 0)
-    ∷ ("delete", 1, 1) ∷ ("delete_all", 0, 64) ∷ ("locate", 1, 1) ∷ []
+    ("pages", 1, 1, 0) ∷ ("declare", 0, 64, 0) ∷ ("new_region", 0, 0, 0) ∷ ("subregion", 1, 1, 0) ∷ ("push", 1, 1, 0) ∷ ("drop", 0, 0, 1)
+    ∷ ("hand_back", 2, 2, 1) ∷ ("allocate", 3, 3, 0) ∷ ("first", 2, 2, 0) ∷ ("copy", 2, 2, 0) ∷ ("fetch", 2, 2, 0) ∷ ("clear", 1, 1, 0)
+    ∷ ("load", 3, 3, 0) ∷ ("set_pointer", 3, 3, 1) ∷ ("put", 3, 3, 0) ∷ ("get", 2, 2, 0) ∷ ("view", 1, 1, 0) ∷ ("same", 2, 2, 0)
+    ∷ ("about", 1, 1, 0) ∷ ("report", 1, 1, 0) ∷ ("totals", 0, 0, 0) ∷ ("audit", 0, 0, 0) ∷ ("delete", 1, 1, 1) ∷ ("delete_all", 0, 64, 1)
+    ∷ ("locate", 1, 1, 0) ∷ []
 
 -- the number of the last call; the first after `pages` is 2
 abbrev pub lastCall : ℕ
@@ -91,6 +93,9 @@ least = 0 ∷ map (λ c. c .1) calls
 
 unfoldable pub most : List ℕ
 most = 0 ∷ map (λ c. c .2) calls
+
+unfoldable pub fillers : List ℕ
+fillers = 0 ∷ map (λ c. c .3) calls
 
 -- the place of a word in a list, counted from n on, or 0
 unfoldable pub placed : ℕ → List ℕ → List (List ℕ) → ℕ
@@ -114,24 +119,35 @@ allowed made n k a = not (eqb n 0) && takes n k && pick (eqb n 1) (not made && l
 unfoldable pub zeros : List ℕ
 zeros = replicate 64 0
 
--- call n with the arguments vs, as a Line holds them
-unfoldable pub line : ℕ → List ℕ → Line
-line n vs = record { call = n; count = length vs; args = sets zeros 0 vs }
+-- call n for filler f with the arguments vs, as a Line holds them
+unfoldable pub line : ℕ → ℕ → List ℕ → Line
+line n f vs = record { call = n; filler = f; count = length vs; args = sets zeros 0 vs }
 
 -- a line that is no call; no call will have this number
 unfoldable pub bad : Line
-bad = line 255 []
+bad = line 255 0 []
 
 -- the arguments have to be numbers, and no more than 64
-unfoldable pub given : ℕ → List ℕ → Line
-given n vs = pick (every known vs && leb (length vs) 64) (line n vs) bad
+unfoldable pub given : ℕ → ℕ → List ℕ → Line
+given n f vs = pick (every known vs && leb (length vs) 64) (line n f vs) bad
 
--- what the words of a line say
-unfoldable pub said : Bool → List (List ℕ) → Line
-said made [] = line 0 []
-said made (w ∷ ws) =
+-- the call that the word w names, for filler f, with the words ws as its arguments
+unfoldable pub called : Bool → ℕ → List ℕ → List (List ℕ) → Line
+called made f w ws =
     let vs = map value ws in
-    pick (allowed made (callOf w) (length vs) (getD vs 0 0)) (given (callOf w) vs) bad
+    pick (allowed made (callOf w) (length vs) (getD vs 0 0)) (given (callOf w) f vs) bad
+
+-- What the words after `as` say: a filler, which is any number below 2^32, and then a call that names one (document 02, card 5). A word that is not there names no call.
+unfoldable pub acting : Bool → List (List ℕ) → Line
+acting made [] = bad
+acting made (w ∷ ws) =
+    let c = getD ws 0 [] in
+    pick (known (value w) && eqb (getD fillers (callOf c) 0) 1) (called made (value w) c (drop 1 ws)) bad
+
+-- what the words of a line say: the filler is 0 where none is named (document 02, card 5)
+unfoldable pub said : Bool → List (List ℕ) → Line
+said made [] = line 0 0 []
+said made (w ∷ ws) = pick (equal eqb w (bytes "as")) (acting made ws) (called made 0 w ws)
 
 unfoldable pub scanned : Bool → List ℕ → Line
 scanned made l = said made (tokens l)

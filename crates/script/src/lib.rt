@@ -1,15 +1,16 @@
-// What a line of a script says: a call of the store by name or number, and its arguments. Every function takes any bytes.
+// What a line of a script says: a call of the store by name or number, its arguments, and the filler that it names. Every function takes any bytes.
 ghost use mathlib.Core.Path.{_≡_};
-ghost use mathlib.Core.List.{[], map};
-ghost use Prim.Native.Nat.{_+_};
+ghost use mathlib.Core.List.{List, [], map};
+ghost use Prim.Native.Nat.{ℕ, _+_};
 ghost use lib.ListN.{length, getD, drop};
-ghost use Rattle.script.specs.Script.{blank, ofClass, front, tokens, value, placed, names, least, most, callOf, takes, allowed, line, given, scanned};
+ghost use Rattle.script.specs.Script.{blank, ofClass, front, tokens, value, placed, names, least, most, fillers, callOf, takes, allowed, line, given, called, acting, scanned};
 ghost use Rattle.script.specs.Found.{NextWord, LineAt};
 
 // A line: `call` is 0 where nothing stands on it, 1 for pages, a call's number from 2 on, and 255 where it is none of these.
-// The arguments are the first `count` of `args`, and the others are 0.
+// The filler is the one that `as` names, 0 where none is named. The arguments are the first `count` of `args`, and the others are 0.
 pub struct Line {
     pub call: u32,
+    pub filler: u32,
     pub count: u32,
     pub args: [u32; 64],
 }
@@ -176,6 +177,16 @@ fn most(n: u32) -> u32
     )
 }
 
+// 1 where a filler may be named in front of call n, and 0 elsewhere.
+pub fn names_filler(n: u32) -> u32
+    ensures { λ r. ⌜ r ≡ getD fillers n 0 ⌝ }
+{
+    cells::byte(
+        b"\x00\x00\x00\x00\x00\x00\x01\x01\x00\x00\x00\x00\x00\x00\x01\x00\x00\x00\x00\x00\x00\x00\x00\x01\x01\x00",
+        n as usize,
+    )
+}
+
 // Whether call n takes k arguments.
 fn takes(n: u32, k: u32) -> bool
     ensures { λ r. ⌜ r ≡ takes n k ⌝ }
@@ -205,20 +216,21 @@ fn allowed(made: bool, n: u32, k: u32, a: u32) -> bool
     made
 }
 
-// A line with no arguments.
+// A line with filler 0 and no arguments.
 fn bare(call: u32) -> Line
-    ensures { λ r. ⌜ r ≡ line call [] ⌝ }
+    ensures { λ r. ⌜ r ≡ line call 0 [] ⌝ }
 {
     Line {
         call,
+        filler: 0,
         count: 0,
         args: [0; 64],
     }
 }
 
-// Call n with the words from `at` on as its arguments: 64 numbers at most.
-fn arguments(s: &[u8], at: usize, n: u32) -> Line
-    ensures { λ r. ⌜ r ≡ given n (map value (tokens (drop at (now (s .entry))))) ⌝ }
+// Call n for a filler, with the words from `at` on as its arguments: 64 numbers at most.
+fn arguments(s: &[u8], at: usize, n: u32, filler: u32) -> Line
+    ensures { λ r. ⌜ r ≡ given n filler (map value (tokens (drop at (now (s .entry))))) ⌝ }
 {
     let mut args = [0u32; 64];
     let mut k: u32 = 0;
@@ -230,6 +242,7 @@ fn arguments(s: &[u8], at: usize, n: u32) -> Line
         if to <= from {
             return Line {
                 call: n,
+                filler,
                 count: k,
                 args,
             };
@@ -245,6 +258,48 @@ fn arguments(s: &[u8], at: usize, n: u32) -> Line
     bare(NO_CALL)
 }
 
+// The same where the call may stand here. The contract holds for each word w that names call n.
+fn called(s: &[u8], at: usize, n: u32, filler: u32, made: bool) -> Line
+    ensures { λ r. ⌜ ((w : List ℕ) → n ≡ callOf w → r ≡ called made filler w (tokens (drop at (now (s .entry))))) ⌝ }
+{
+    let l = arguments(s, at, n, filler);
+    let args = l.args;
+    if allowed(made, l.call, l.count, args[0]) {
+        l
+    } else {
+        bare(NO_CALL)
+    }
+}
+
+// What the words from `at` on say, after `as`: a filler, and a call that names one.
+fn acting(s: &[u8], at: usize, made: bool) -> Line
+    ensures { λ r. ⌜ r ≡ acting made (tokens (drop at (now (s .entry)))) ⌝ }
+{
+    let p = word(s, at);
+    let from = p.from;
+    let to = p.to;
+    if to <= from {
+        return bare(NO_CALL);
+    }
+    let f = number(&s[from..to]);
+    if 4294967296 <= f {
+        return bare(NO_CALL);
+    }
+    let filler = f as u32;
+    let q = word(s, to);
+    let begin = q.from;
+    let end = q.to;
+    if end <= begin {
+        return bare(NO_CALL);
+    }
+    let n = call_of(&s[begin..end]);
+    if names_filler(n) == 1 {
+        called(s, end, n, filler, made)
+    } else {
+        bare(NO_CALL)
+    }
+}
+
 // What a line says, where `made` tells whether pages came before it.
 pub fn scan(s: &[u8], made: bool) -> Line
     ensures { λ r. ⌜ r ≡ scanned made (now (s .entry)) ⌝ }
@@ -255,12 +310,9 @@ pub fn scan(s: &[u8], made: bool) -> Line
     if to <= from {
         return bare(0);
     }
-    let n = call_of(&s[from..to]);
-    let l = arguments(s, to, n);
-    let args = l.args;
-    if allowed(made, l.call, l.count, args[0]) {
-        l
-    } else {
-        bare(NO_CALL)
+    if check::same(&s[from..to], b"as") {
+        return acting(s, to, made);
     }
+    let n = call_of(&s[from..to]);
+    called(s, to, n, 0, made)
 }

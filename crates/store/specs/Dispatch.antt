@@ -11,10 +11,11 @@ use Rattle.state.specs.declared.Reply.{Reply}
 use Rattle.outcomes.specs.Store.{Store}
 use Rattle.outcomes.specs.Outcome.{Outcome, answerOf}
 
--- the calls from number 2 on, in order, with their arguments from the left: four numbers, and a list, declare's marks or deleteAll's names
+-- the calls from number 2 on, in order, with their arguments from the left: four numbers, and a list, declare's marks or deleteAll's names. A filler is the number after document 01's arguments, and the
+-- first beside deleteAll's list (document 02, card 5)
 abbrev pub numbered : ℕ → ℕ → ℕ → ℕ → List ℕ → List Call
 numbered a b c d list =
-    declare list ∷ newRegion ∷ subregion a ∷ push a ∷ dropFrame ∷ handBack a b ∷ allocate a b c ∷ first a b ∷ copy a b ∷ fetch a b ∷ clear a ∷ load a b c ∷ setPointer a b c ∷ put a b c ∷ get a b ∷ view a ∷ same a b ∷ about a ∷ report a ∷ totals ∷ audit ∷ delete a ∷ deleteAll list ∷ ask (locate a) ∷ []
+    declare list ∷ newRegion ∷ subregion a ∷ push a ∷ dropFrame a ∷ handBack a b c ∷ allocate a b c ∷ first a b ∷ copy a b ∷ fetch a b ∷ clear a ∷ load a b c ∷ setPointer a b c d ∷ put a b c ∷ get a b ∷ view a ∷ same a b ∷ about a ∷ report a ∷ totals ∷ audit ∷ delete a b ∷ deleteAll list a ∷ ask (locate a) ∷ []
 
 -- the number of the last of them
 abbrev pub lastCall : ℕ

@@ -32,7 +32,7 @@ ghost use Rattle.outcomes.specs.Outcome.{store};
 ghost use Rattle.store.specs.Dispatch.{Dispatched};
 
 // The call numbered `number`, as document 01 numbers its calls, 24 for delete_all and 25 for locate, with its arguments from the left; what it does not take is ignored. The list is
-// declare's marks or delete_all's names.
+// declare's marks or delete_all's names. The filler of drop, hand_back, set_pointer, delete and delete_all is the argument after document 01's: a, c, d, b, and a beside delete_all's list.
 // A number that is no call's is answered 24. View's part is had from `view`.
 pub fn call(
     s: State,
@@ -51,15 +51,15 @@ pub fn call(
         3 => new_region(s, heap),
         4 => subregion(s, heap, a),
         5 => push(s, heap, a),
-        6 => drop(s, heap),
-        7 => hand_back(s, heap, a, b),
+        6 => drop(s, heap, a),
+        7 => hand_back(s, heap, a, b, c),
         8 => allocate(s, heap, a, b, c),
         9 => first(s, heap, a, b),
         10 => copy(s, heap, a, b),
         11 => fetch(s, heap, a, b),
         12 => clear(s, heap, a),
         13 => load(s, heap, a, b, c),
-        14 => set_pointer(s, heap, a, b, c),
+        14 => set_pointer(s, heap, a, b, c, d),
         15 => Done {
             state: s,
             reply: put(s, heap, a, b, c),
@@ -92,8 +92,8 @@ pub fn call(
             state: s,
             reply: audit(s, heap),
         },
-        23 => delete(s, heap, a),
-        24 => delete_all(s, heap, list),
+        23 => delete(s, heap, a, b),
+        24 => delete_all(s, heap, list, a),
         25 => Done {
             state: s,
             reply: locate(s, heap, a),

@@ -65,11 +65,22 @@ fn before_zero(a: u32, b: u32, c: u32) -> usize {
     if c == 0 { 2 } else { 3 }
 }
 
-// The call with that number and these arguments. For delete_all they are its list, up to the first that is 0: no region has the name 0. Declare has its own function (`with_kind`).
+// The call with that number and these arguments, for filler 0: a number after the call's own arguments, which is 0 in every row, is where a filler goes. For delete_all they are its list, up to the first that is 0: no region has the name 0. Declare has its own function (`with_kind`).
 fn called(s: State, heap: &mut [u32], number: u32, a: u32, b: u32, c: u32) -> Done {
     let list = [a, b, c];
     let n = before_zero(a, b, c);
-    store::call(s, heap, number, a, b, c, 0, cells::part(&list, 0, n))
+    let names = cells::part(&list, 0, n);
+    if number == DELETE_ALL {
+        return store::call(s, heap, number, 0, 0, 0, 0, names);
+    }
+    store::call(s, heap, number, a, b, c, 0, names)
+}
+
+// The call with that number and four arguments, where the call by its number has them: a filler is the one after document 01's. For delete_all it is a, and the others are the list, as above.
+fn acted(s: State, heap: &mut [u32], number: u32, a: u32, b: u32, c: u32, d: u32) -> Done {
+    let list = [b, c, d];
+    let n = before_zero(b, c, d);
+    store::call(s, heap, number, a, b, c, d, cells::part(&list, 0, n))
 }
 
 // A call made n times, and once for 0, each time on what the one before left; the last one's reply.
@@ -145,7 +156,7 @@ pub fn nested(s: State, heap: &mut [u32], first: u32, since: u32, region: u32, n
 
 // Delete all of these, with a line that begins with the call's place.
 pub fn deletes(s: State, heap: &mut [u32], place: u32, names: &[u32]) -> State {
-    let d = store::delete_all(s, heap, names);
+    let d = store::delete_all(s, heap, names, 0);
     lines::line(place, d.reply);
     d.state
 }
@@ -160,6 +171,22 @@ pub fn plays(s: State, heap: &mut [u32], first: u32, since: u32, calls: &[[u32; 
         let c = calls[i];
         i += 1;
         let d = called(t, heap, c[0], c[1], c[2], c[3]);
+        line_from(since, place, d.reply);
+        place = std::num::wrapping_add_u32(place, 1);
+        t = d.state;
+    }
+    t
+}
+
+// The same of calls with four arguments, among them the filler that a call names.
+pub fn acts(s: State, heap: &mut [u32], first: u32, since: u32, calls: &[[u32; 5]]) -> State {
+    let mut t = s;
+    let mut place = first;
+    let mut i: usize = 0;
+    while i < calls.len() {
+        let c = calls[i];
+        i += 1;
+        let d = acted(t, heap, c[0], c[1], c[2], c[3], c[4]);
         line_from(since, place, d.reply);
         place = std::num::wrapping_add_u32(place, 1);
         t = d.state;

@@ -9,17 +9,17 @@ use Rattle.audit_counts.proofs.all_zero.Tie as tie
 
 -- the counts passed are 0
 abbrev Inv-loop : tie.InvT-loop
-Inv-loop names counts i₀ i = Passed (isZero names counts) 64 i
+Inv-loop names shares i₀ i = Passed (isZero names shares) 64 i
 
 abbrev μ-loop : tie.MeasureT-loop
-μ-loop names counts i₀ i = 64 - i
+μ-loop names shares i₀ i = 64 - i
 
 returns : tie.Need-returns Inv-loop μ-loop
 unfolding allZero
 returns c =
     let l = c .before .before .before in
     let a = l .before .before .before .args in
-    passed-not (isZero (a .names .now) (a .counts .now)) 64 (l .loop .i) (omega arith) (rw (← c .before .is-zero .ensures) (not-true (c .before .is-zero .result) (c .if1 .taken)))
+    passed-not (isZero (a .names .now) (a .shares .now)) 64 (l .loop .i) (omega arith) (rw (← c .before .is-zero .ensures) (not-true (c .before .is-zero .result) (c .if1 .taken)))
 
 loop-again : tie.Need-loop-again Inv-loop μ-loop
 loop-again c =
@@ -28,7 +28,7 @@ loop-again c =
 
 returns-2 : tie.Need-returns-2 Inv-loop μ-loop
 unfolding allZero
-returns-2 c = let l = c .before in let a = l .before .before .before .args in passed-all (isZero (a .names .now) (a .counts .now)) 64 (l .loop .i) (l .loop .inv) (omega arith)
+returns-2 c = let l = c .before in let a = l .before .before .before .args in passed-all (isZero (a .names .now) (a .shares .now)) 64 (l .loop .i) (l .loop .inv) (omega arith)
 
 pub all-zero-spec : {M : Type 1} → statement M
 all-zero-spec =

@@ -18,7 +18,7 @@ returns c =
     let k = kindsWith (a .declared) (a .sizes .now) (a .marks .now) in
     let ws = joined (wordTags k (a .heap .now) (a .owners .now) (a .taken .now)) (upTo (pageCountIn (a .made))) in
     let ts = joined (targetsIn (a .widths .now) (a .slots .now) (a .owners .now)) (upTo (a .counted)) in
-    c .all-zero .ensures ∙ ap (allZero (a .names .now)) (f .leave-frames .ensures ∙ rw (p .leave-pages .ensures) (steps-append 4294967295 (a .counts .now) ws ts))
+    c .all-zero .ensures ∙ ap (allZero (a .names .now)) (f .leave-frames .ensures ∙ rw (p .leave-pages .ensures) (steps-append 4294967295 0 (a .shares .now) ws ts))
 
 pub counts-fit-spec : {M : Type 1} → statement M
 counts-fit-spec = tie.close (tie.spec (λ c κs. search needs) (λ c κs. search needs) (λ c κs. search needs) (λ c. search needs) returns)

@@ -14,11 +14,11 @@ use Rattle.audit_counts.proofs.leave_pages.Tie as tie
 
 -- the pages passed have left
 abbrev Inv-loop : tie.InvT-loop
-Inv-loop declared sizes marks heap made owners taken counts₀ n j₀ counts j =
-    (n ≡ pageCountIn made) × (j ≤ n) × (counts ≡ leavings counts₀ (joined (wordTags (kindsWith declared sizes marks) heap owners taken) (upTo j)))
+Inv-loop declared sizes marks heap made owners taken shares₀ n j₀ shares j =
+    (n ≡ pageCountIn made) × (j ≤ n) × (shares ≡ leavings 0 shares₀ (joined (wordTags (kindsWith declared sizes marks) heap owners taken) (upTo j)))
 
 abbrev μ-loop : tie.MeasureT-loop
-μ-loop declared sizes marks heap made owners taken counts₀ n j₀ counts j = n - j
+μ-loop declared sizes marks heap made owners taken shares₀ n j₀ shares j = n - j
 
 loop-holds : tie.Need-loop-holds Inv-loop μ-loop
 unfolding steps
@@ -29,7 +29,7 @@ loop-again c =
     let l = c .before .before .before .before .before in
     let a = l .before .before .before .before .before .before .before .before .args in
     let t = wordTags (kindsWith (a .declared) (a .sizes .now) (a .marks .now)) (a .heap .now) (a .owners .now) (a .taken .now) in
-    (l .loop .inv .0, omega arith, c .before .before .leave-one .ensures ∙ rw (l .loop .inv .2, joined-next t (l .loop .j)) (steps-append 4294967295 (a .counts .now) (joined t (upTo (l .loop .j))) (t (l .loop .j))))
+    (l .loop .inv .0, omega arith, c .before .before .leave-one .ensures ∙ rw (l .loop .inv .2, joined-next t (l .loop .j)) (steps-append 4294967295 0 (a .shares .now) (joined t (upTo (l .loop .j))) (t (l .loop .j))))
 
 returns : tie.Need-returns Inv-loop μ-loop
 returns c = let l = c .before in let e : pageCountIn (l .before .before .before .before .before .before .before .before .args .made) ≡ l .loop .j = omega arith in rw e (l .loop .inv .2)
@@ -46,5 +46,5 @@ leave-pages-spec =
     (λ c. search needs)
     (λ c. search needs)
     loop-again
-    (λ c. ap length (c .before .loop .inv .2) ∙ steps-length 4294967295 _ _)
+    (λ c. ap length (c .before .loop .inv .2) ∙ steps-length 4294967295 0 _ _)
     returns)

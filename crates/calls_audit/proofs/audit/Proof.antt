@@ -23,16 +23,16 @@ never-refused : (S : Store) → refusal S audit ≡ 0
 unfolding refusal checks
 never-refused S = refl
 
--- what the tests come to is the answer: they have a copy of the stored counts. The types give the lengths and the size of counts, of the state alone
-answers : (s : State) (heap : List ℕ) (r : Answer) (p b : Bool) → ((l : List ℕ) → Bits32 l → Shaped (store s l)) → p ≡ passes (s .regions .counts) s heap → p ≡ b → r ≡ gives (bit b ∷ 0 ∷ 0 ∷ 0 ∷ [])
+-- what the tests come to is the answer: they have a copy of the shares. The types give the lengths and the size of shares, of the state alone
+answers : (s : State) (heap : List ℕ) (r : Answer) (p b : Bool) → ((l : List ℕ) → Bits32 l → Shaped (store s l)) → p ≡ passes (s .regions .shares) s heap → p ≡ b → r ≡ gives (bit b ∷ 0 ∷ 0 ∷ 0 ∷ [])
     → Outcome audit (store s heap) r (store s heap) × Sized (store s heap) × (Bits32 heap → Shaped (store s heap))
 unfolding Accepted countAt
 answers s heap r p b types q e g =
     let h = types [] tt in
     let l = h .sized in
     let S = store s heap in
-    let c : (i : ℕ) → getD (s .regions .counts) i 0 < 4294967296 = λ i. all-at (λ x. x < 4294967296) (s .regions .counts) i 0 (h .bounded .inRegions .counts) (omega arith) in (
-      by-effect audit S r S (never-refused S) (g ∙ ap (λ b. gives (bit b ∷ [])) (sym e ∙ q ∙ passes-same S (l .inRegions .names) (s .regions .counts) (l .inRegions .counts, c) (λ i b. refl)), refl),
+    let c : (p : ℕ) → getD (s .regions .shares) p 0 < 4294967296 = λ p. all-at (λ x. x < 4294967296) (s .regions .shares) p 0 (h .bounded .inRegions .shares) (omega arith) in (
+      by-effect audit S r S (never-refused S) (g ∙ ap (λ b. gives (bit b ∷ [])) (sym e ∙ q ∙ passes-same S (l .inRegions .names) (s .regions .shares) (l .inRegions .shares, c) (λ i b. refl)), refl),
       record { inFrames = l .inFrames; inKinds = l .inKinds; inRegions = l .inRegions; inPages = l .inPages },
       types heap,
     )

@@ -19,8 +19,8 @@ use Rattle.lists.specs.Laws.Kept.{each-kept, sum-above}
 use Rattle.lists.specs.Laws.Every.{every-map, every-below}
 use Rattle.frames.specs.Frames.{frameCount, widthAt, slotAt}
 use Rattle.kinds.specs.Kinds.{sizeOf, markAt}
-use Rattle.regions.specs.Regions.{nameAt, nameOf, parentAt, countAt}
-use Rattle.regions.specs.Laws.Counts.{Counts}
+use Rattle.regions.specs.Regions.{nameAt, nameOf, parentAt, countIn, countAt}
+use Rattle.regions.specs.Laws.Counts.{Shares}
 use Rattle.regions.specs.Laws.Steps.{leavings, leavings-zero}
 use Rattle.pages.specs.Pages.{pageCount, ownerAt, takenAt, ownerIn, ownerOf}
 use Rattle.objects.specs.Objects.{headersOn, freeWords, freeWordsOn, outOf}
@@ -41,7 +41,7 @@ eqb-iff : (a b c d : ℕ) → (a ≡ b → c ≡ d) → (c ≡ d → a ≡ b) �
 eqb-iff a b c d f g = by-test (eqb c d) (λ e. rw e (eq-eqb a b (g (eqb-true c d e)))) (λ e. rw e (ne-eqb a b (λ q. eqb-false c d e (f q))))
 
 module _ (S : Store) where
-  -- ---- the test over lists, of those of S; cs is the list that pointers leave
+  -- ---- the test over lists, of those of S; cs are the shares that pointers leave
 
   abbrev pub countsPass : List ℕ → Bool
   countsPass cs = countsFit ((regions S) .names) cs (kinds S) (S .heap) ((pages S) .made) ((pages S) .owners) ((pages S) .taken) ((frames S) .counted) ((frames S) .widths) ((frames S) .slots)
@@ -112,9 +112,9 @@ module _ (S : Store) where
           sum-most (slotsInto S t) 8 (upTo m) (all-upTo (λ f. slotsInto S t f ≤ 8) m (λ f l. slots-few t f (omega (arith, m-fits)))),
         )
 
-    -- ---- where all pointers lead to objects, and cs has the stored counts
+    -- ---- where all pointers lead to objects, and the shares cs come to the stored counts
 
-    module _ (h : Ordered S) (cs : List ℕ) (fits : Counts cs) (kept : (i : ℕ) → i < 64 → getD cs i 0 ≡ countAt (regions S) i) (slots : slotsPass S ≡ true) (holds : wordsPass S ≡ true) where
+    module _ (h : Ordered S) (cs : List ℕ) (fits : Shares cs) (kept : (i : ℕ) → i < 64 → countIn cs i ≡ countAt (regions S) i) (slots : slotsPass S ≡ true) (holds : wordsPass S ≡ true) where
       slot-known : (f : ℕ) → f < frameCount (frames S) → (s : ℕ) → s < widthAt (frames S) f → Known S h (slotAt (frames S) f s)
       unfolding framesLead frameLeads frameCount widthAt slotAt
       slot-known f l s m =
@@ -144,7 +144,7 @@ module _ (S : Store) where
           (or-other (eqb t 0) _ (every-each (pageWordsPass S) (pageCount (pages S)) holds j l) (ne-eqb t 0 n)))
 
       count-same : (i : ℕ) → i < 64 → nameAt (regions S) i ≢ 0
-          → eqb (storedCount S (nameAt (regions S) i) + uncountedInto (begin S) S (nameAt (regions S) i)) (outside (begin S) S (nameAt (regions S) i)) ≡ eqb (getD (leavings cs tags) i 0) 0
+          → eqb (storedCount S (nameAt (regions S) i) + uncountedInto (begin S) S (nameAt (regions S) i)) (outside (begin S) S (nameAt (regions S) i)) ≡ eqb (countIn (leavings 0 cs tags) i) 0
       unfolding storedCount uncountedInto outside begin
       count-same i l n =
           let m = (frames S) .counted in
@@ -154,9 +154,9 @@ module _ (S : Store) where
           let a = sum-below f (slotsInto S (suc i)) m (λ k b. slots-into S h i n k (omega (arith, m-fits)) (slot-known k (omega (arith, m-fits)))) in
           let b = words-into S h i n page-known in
           let u = rw e at (sum-above f m (frameCount (frames S))) in
-          let z = leavings-zero cs tags fits i l (tags-below (suc i)) in
+          let z = leavings-zero 0 (omega arith) cs tags fits i l (tags-below (suc i)) in
           rw (entry-is S (h .names) (h .few) i n, frames-length S)
-          (eqb-iff (countAt (regions S) i + sumOf (λ k. pick (leb m k) (f k) 0) (upTo (frameCount (frames S)))) (sumOf f (upTo (frameCount (frames S))) + sumOf (history.wordsLeadingTo (begin S) S r) ((begin S) .objects)) (getD (leavings cs tags) i 0) 0
+          (eqb-iff (countAt (regions S) i + sumOf (λ k. pick (leb m k) (f k) 0) (upTo (frameCount (frames S)))) (sumOf f (upTo (frameCount (frames S))) + sumOf (history.wordsLeadingTo (begin S) S r) ((begin S) .objects)) (countIn (leavings 0 cs tags) i) 0
           (λ q. z .1 (omega (arith, a, b, u, all-tags (suc i), kept i l)))
           (λ q. omega (arith, a, b, u, all-tags (suc i), kept i l, z .0 q)))
 
@@ -164,7 +164,7 @@ module _ (S : Store) where
       unfolding countsExact begin listedRegions countsFit allZero isZero nameAt
       counts-same =
           let exact : ℕ → Bool = λ r. eqb (storedCount S r + uncountedInto (begin S) S r) (outside (begin S) S r) in
-          let zero : ℕ → Bool = λ i. eqb (getD (leavings cs tags) i 0) 0 in
+          let zero : ℕ → Bool = λ i. eqb (countIn (leavings 0 cs tags) i) 0 in
           every-map (λ g. exact (g .name)) (λ i. record { name = nameAt (regions S) i; parent = nameOf (regions S) (parentAt (regions S) i) }) (entries S)
           ∙ every-entry S (λ i. exact (nameAt (regions S) i))
           ∙ every-below (λ i. eqb (nameAt (regions S) i) 0 || exact (nameAt (regions S) i)) (λ i. eqb (nameAt (regions S) i) 0 || zero i) 64 (λ i l.

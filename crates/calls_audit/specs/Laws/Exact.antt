@@ -5,10 +5,10 @@ use mathlib.Core.Logic.{_≢_}
 use mathlib.Core.Bool.{Bool, true, _&&_}
 use mathlib.Core.List.{List, [], _∷_}
 use Prim.Native.Nat.{ℕ, _<_}
-use lib.ListN.{length, getD}
+use lib.ListN.{length}
 use Rattle.lists.specs.Laws.Tests.{both, by-test}
-use Rattle.regions.specs.Regions.{nameAt, countAt}
-use Rattle.regions.specs.Laws.Counts.{Counts}
+use Rattle.regions.specs.Regions.{nameAt, countIn, countAt}
+use Rattle.regions.specs.Laws.Counts.{Shares}
 use Rattle.outcomes.specs.Store.{Store, regions}
 use Rattle.outcomes.specs.Sound.{sound, Sound, newestOwn, oldestOwn}
 use Rattle.outcomes.specs.Laws.Decided.{sound-is, is-sound}
@@ -22,8 +22,8 @@ use Rattle.calls_audit.specs.Laws.State.{folded-true, entry-each, widths
 use Rattle.calls_audit.specs.Laws.Heap.{pagesPass, newestPasses, oldestPasses, entriesPass, slotsPass, wordsPass, pages-pass, owned, held, filling, newest-same, oldest-same, slots-same, words-same}
 use Rattle.calls_audit.specs.Laws.Counts.{countsPass, counts-same}
 
--- cs is the list of counts that the tests have, which are the stored counts
-module _ (S : Store) (names : length ((regions S) .names) ≡ 64) (cs : List ℕ) (fits : Counts cs) (kept : (i : ℕ) → i < 64 → getD cs i 0 ≡ countAt (regions S) i) where
+-- cs are the shares that the tests have, which come to the stored counts
+module _ (S : Store) (names : length ((regions S) .names) ≡ 64) (cs : List ℕ) (fits : Shares cs) (kept : (i : ℕ) → i < 64 → countIn cs i ≡ countAt (regions S) i) where
   abbrev statePasses : Bool
   statePasses = stateFits (S .state) (length (S .heap))
 

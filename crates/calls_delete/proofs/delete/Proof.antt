@@ -3,7 +3,7 @@ use native.Mathlib.Omega.{arith}
 use lib.ListN.{length}
 use borrow.Author.Needs.{needs}
 use Rattle.frames.specs.Frames.{topFrame, raised}
-use Rattle.regions.specs.Regions.{withCounts, withoutRegions}
+use Rattle.regions.specs.Regions.{withShares, withoutRegions}
 use Rattle.regions.specs.Laws.Entries.{entry-most}
 use Rattle.outcomes.specs.Laws.Steps.{by-refusal}
 use Rattle.calls_delete.proofs.Laws.{delete-second, delete-effect}
@@ -17,10 +17,10 @@ frames-entered c = c .before .before .before .before
 abbrev scanned : tie.After-enter-frames → tie.After-scan
 scanned c = c .before .before .before .before .before .before .before .before .before
 
-abbrev shaped : tie.After-scan → tie.After-counts-shaped
+abbrev shaped : tie.After-scan → tie.After-shares-shaped
 shaped c = c .before .before .before .before .before .before .before .before
 
-abbrev checked : tie.After-counts-shaped → tie.After-delete-refusal
+abbrev checked : tie.After-shares-shaped → tie.After-delete-refusal
 checked c = c .before .before .before
 
 abbrev ticked : tie.After-delete-refusal → tie.After-store-byte
@@ -45,10 +45,10 @@ returns : tie.Need-returns
 returns c =
     let d = c .before .before in
     let k = ticked d in
-    by-refusal _ _ _ _ _ (delete-second _ _ _ _ _ (found k .entry-of .ensures) (k .store-byte .ensures) (d .delete-refusal .ensures)) (c .before .if1 .taken) (c .refused .ensures) refl
+    by-refusal _ _ _ _ _ (delete-second _ _ _ _ _ _ (found k .entry-of .ensures) (k .store-byte .ensures) (d .delete-refusal .ensures)) (c .before .if1 .taken) (c .refused .ensures) refl
 
 returns-2 : tie.Need-returns-2
-unfolding raised topFrame withCounts withoutRegions
+unfolding raised topFrame withShares withoutRegions
 returns-2 c =
     let t = c .before .before in
     let w = t .before in
@@ -59,7 +59,7 @@ returns-2 c =
     let d = checked z in
     let k = ticked d in
     let e = found k in
-    delete-effect _ _ _ _ _ (e .entry-of .ensures) (k .store-byte .ensures) (d .delete-refusal .ensures) _ _ _ _ _ _ (z .before .before .if1 .left) (c .gives .ensures) (z .counts-shaped .ensures) (pages-listed (began e))
+    delete-effect _ _ _ _ _ _ (e .entry-of .ensures) (k .store-byte .ensures) (d .delete-refusal .ensures) _ _ _ _ _ _ (z .before .before .if1 .left) (c .gives .ensures) (z .shares-shaped .ensures) (pages-listed (began e))
     (s .scan .ensures) (f .enter-frames .ensures) (b .give-back .ensures) (rw (t .top .ensures)) refl (rw (w .put-word .ensures)) refl refl
 
 pub delete-spec : {M : Type 1} → statement M

@@ -10,7 +10,7 @@ use Rattle.lists.specs.Lists.{every, equal}
 use Rattle.model.specs.Model.{delete}
 use Rattle.frames.specs.Frames.{frameCount, topFrame, widthAt, slotAt, raised}
 use Rattle.kinds.specs.Kinds.{kindCount, sizeOf, markAt, sizeIn}
-use Rattle.regions.specs.Regions.{nameAt, entryOf, tagOf, isLive, parentAt, subregionsOf, countAt, withoutRegions, withCounts, rolled, moved, entryIn, subregionsIn, recount}
+use Rattle.regions.specs.Regions.{nameAt, entryOf, tagOf, isLive, parentAt, subregionsOf, countAt, countIn, added, withoutRegions, withShares, rolled, moved, entryIn, subregionsIn, recount}
 use Rattle.pages.specs.Pages.{wrongLength, pageCount, ownerAt, takenAt, ownerIn, ownerOf, freed, wrongLengthIn, ownersTo}
 use Rattle.objects.specs.Objects.{walk, headersTo, headersOn, freeWords, freeWordsOn, freeWordsOf, outOf}
 use Rattle.outcomes.specs.Store.{Store, ledInto, slotTargets, targetsIn, ledIn, ledAmongIn}
@@ -30,11 +30,11 @@ memory v c n =
     but setOwners (1 ∷ 2 ∷ replicate 254 0) but setTaken (2 ∷ 4 ∷ replicate 254 0)
 
 -- one pointer into region 1 went with the page, two came with the frames that are counted now; the same with a subregion in the list, which has no page
-goes : every (λ S. equal (equal eqb) (reads S) ((2 ∷ 0 ∷ 0 ∷ 0 ∷ []) ∷ (1 ∷ 0 ∷ 0 ∷ 0 ∷ []) ∷ (1 ∷ 0 ∷ 0 ∷ 0 ∷ []) ∷ (2 ∷ []) ∷ [])) (deleted (memory 0 0 0) (2 ∷ []) ∷ deleted (memory 0 0 3) (2 ∷ 3 ∷ []) ∷ []) ≡ true
-unfolding blank frameCount topFrame widthAt slotAt raised kindCount sizeOf markAt nameAt entryOf tagOf countAt withoutRegions withCounts rolled moved pageCount ownerAt takenAt ownerIn ownerOf freed walk headersTo headersOn freeWords freeWordsOn outOf slotTargets recounted outgoing newlyCounted deleted sizeIn entryIn recount targetsIn newlyIn freeWordsOf ownersTo
+goes : every (λ S. equal (equal eqb) (reads S) ((2 ∷ 0 ∷ 0 ∷ 0 ∷ []) ∷ (1 ∷ 0 ∷ 0 ∷ 0 ∷ []) ∷ (1 ∷ 0 ∷ 0 ∷ 0 ∷ []) ∷ (2 ∷ []) ∷ [])) (deleted (memory 0 0 0) (2 ∷ []) 0 ∷ deleted (memory 0 0 3) (2 ∷ 3 ∷ []) 2 ∷ []) ≡ true
+unfolding blank frameCount topFrame widthAt slotAt raised kindCount sizeOf markAt nameAt entryOf tagOf countAt countIn added withoutRegions withShares rolled moved pageCount ownerAt takenAt ownerIn ownerOf freed walk headersTo headersOn freeWords freeWordsOn outOf slotTargets recounted outgoing newlyCounted deleted sizeIn entryIn recount targetsIn newlyIn freeWordsOf ownersTo
 goes = refl
 
 -- nothing in the way; a slot of the top frame; a stored count; a subregion; a subregion and both kinds of pointer
-refusals : map (λ (p : Store × ℕ). refusal (p .0) (delete (p .1))) ((memory 0 0 0, 2) ∷ (memory 65 0 0, 2) ∷ (memory 0 1 0, 2) ∷ (memory 0 0 3, 2) ∷ (memory 65 1 3, 2) ∷ []) ≡ 0 ∷ 19 ∷ 19 ∷ 18 ∷ 18 ∷ []
-unfolding blank frameCount widthAt slotAt nameAt entryOf tagOf isLive parentAt subregionsOf countAt wrongLength ownerIn ownerOf ledInto badLength dead checks refusal entryIn subregionsIn wrongLengthIn ledIn ledAmongIn targetsIn
+refusals : map (λ (p : Store × ℕ). refusal (p .0) (delete (p .1) 3)) ((memory 0 0 0, 2) ∷ (memory 65 0 0, 2) ∷ (memory 0 1 0, 2) ∷ (memory 0 0 3, 2) ∷ (memory 65 1 3, 2) ∷ []) ≡ 0 ∷ 19 ∷ 19 ∷ 18 ∷ 18 ∷ []
+unfolding blank frameCount widthAt slotAt nameAt entryOf tagOf isLive parentAt subregionsOf countAt countIn added wrongLength ownerIn ownerOf ledInto badLength dead checks refusal entryIn subregionsIn wrongLengthIn ledIn ledAmongIn targetsIn
 refusals = refl

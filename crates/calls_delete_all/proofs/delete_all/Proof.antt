@@ -19,10 +19,10 @@ asked c = c .before .before .before .before .before .before .before .before .bef
 abbrev scanned : tie.After-pointed-at → tie.After-scan
 scanned c = c .before .before .before .before .before .before .before .before .before .before
 
-abbrev shaped : tie.After-scan → tie.After-counts-shaped
+abbrev shaped : tie.After-scan → tie.After-shares-shaped
 shaped c = c .before .before .before .before .before .before .before .before
 
-abbrev ticked : tie.After-counts-shaped → tie.After-members2
+abbrev ticked : tie.After-shares-shaped → tie.After-members2
 ticked c = c .before .before .before
 
 abbrev began : tie.After-members2 → tie.Start
@@ -38,7 +38,7 @@ unfolding raised topFrame
 raised-by f m e = rw e
 
 returns : tie.Need-returns
-returns c = delete-all-refused _ _ _ (c .before .before .before .list-refusal .ensures .0) _ _ (c .before .if1 .taken) (c .refused .ensures) refl
+returns c = delete-all-refused _ _ _ _ (c .before .before .before .list-refusal .ensures .0) _ _ (c .before .if1 .taken) (c .refused .ensures) refl
 
 returns-2 : tie.Need-returns-2
 returns-2 c =
@@ -47,7 +47,7 @@ returns-2 c =
     let z = shaped s in
     let l = ticked z in
     let a = began l .args in
-    delete-all-pointed (store (a .s) (a .heap .now)) (a .list .now) _ (l .before .list-refusal .ensures .0) (z .before .before .if1 .left) _ _ _ (l .before .list-refusal .ensures .1) (z .counts-shaped .ensures) (s .scan .ensures)
+    delete-all-pointed (store (a .s) (a .heap .now)) (a .list .now) _ _ (l .before .list-refusal .ensures .0) (z .before .before .if1 .left) _ _ _ (l .before .list-refusal .ensures .1) (z .shares-shaped .ensures) (s .scan .ensures)
     (p .pointed-at .ensures) _ _ (c .before .if2 .taken) (c .refused2 .ensures) refl
 
 returns-3 : tie.Need-returns-3
@@ -61,7 +61,7 @@ returns-3 c =
     let z = shaped s in
     let l = ticked z in
     let a = began l .args in
-    delete-all-effect (store (a .s) (a .heap .now)) (a .list .now) _ (l .before .list-refusal .ensures .0) (z .before .before .if1 .left) _ _ _ (l .before .list-refusal .ensures .1) (z .counts-shaped .ensures) (s .scan .ensures)
+    delete-all-effect (store (a .s) (a .heap .now)) (a .list .now) _ _ (l .before .list-refusal .ensures .0) (z .before .before .if1 .left) _ _ _ (l .before .list-refusal .ensures .1) (z .shares-shaped .ensures) (s .scan .ensures)
     (p .pointed-at .ensures) _ _ _ _ _ _ (e .before .before .before .before .before .before .before .before .before .if2 .left) (c .gives .ensures) (pages-listed (began l)) (e .enter-frames .ensures) (b .give-back .ensures) (u .give-up .ensures)
     (raised-by _ _ (t .top .ensures)) refl refl refl refl
 

@@ -11,7 +11,7 @@ use Rattle.model.specs.Model.{Call, delete, deleteAll, gives, climb}
 use Rattle.model.specs.Calls.{wrongNames, nameTests}
 use Rattle.frames.specs.Frames.{frameCount, topFrame, widthAt, slotAt, raised}
 use Rattle.kinds.specs.Kinds.{kindCount, sizeOf, markAt, sizeIn}
-use Rattle.regions.specs.Regions.{nameAt, nameOf, nameIn, entryOf, tagOf, isLive, parentAt, levelAt, newestAt, oldestAt, subregionsOf, closedIn, countAt, withoutRegions, withCounts, rolled, moved, entryIn, subregionsIn, recount, followsIn}
+use Rattle.regions.specs.Regions.{nameAt, nameOf, nameIn, entryOf, tagOf, isLive, parentAt, levelAt, newestAt, oldestAt, subregionsOf, closedIn, countAt, countIn, added, withoutRegions, withShares, rolled, moved, entryIn, subregionsIn, recount, followsIn}
 use Rattle.pages.specs.Pages.{wrongLength, pageCount, isFree, ownerAt, takenAt, ownerIn, ownerOf, pagesIn, pagesOf, freed, wrongLengthIn, ownersTo}
 use Rattle.objects.specs.Objects.{walk, headersTo, headersOn, freeWords, freeWordsOn, freeWordsOf, outOf}
 use Rattle.outcomes.specs.Store.{Store, frames, regions, pages, ledInto, ledAmong, slotTargets, targetsIn, ledIn, ledAmongIn}
@@ -62,26 +62,26 @@ crowded =
 abbrev asked : List (Store × Call × ℕ)
 asked =
     -- two regions that lead into each other: neither can go alone, both can together
-    (linked, delete 2, 19) ∷ (linked, delete 3, 19) ∷ (linked, deleteAll (2 ∷ []), 19) ∷ (linked, deleteAll (3 ∷ []), 19)
-    ∷ (linked, deleteAll (2 ∷ 3 ∷ []), 0) ∷ (linked, deleteAll (3 ∷ 2 ∷ []), 0)
+    (linked, delete 2 0, 19) ∷ (linked, delete 3 0, 19) ∷ (linked, deleteAll (2 ∷ []) 0, 19) ∷ (linked, deleteAll (3 ∷ []) 0, 19)
+    ∷ (linked, deleteAll (2 ∷ 3 ∷ []) 0, 0) ∷ (linked, deleteAll (3 ∷ 2 ∷ []) 0, 0)
     -- a word from outside; a slot of an uncounted frame; a slot of a counted one
-    ∷ (pointedAt, deleteAll (2 ∷ 3 ∷ []), 19) ∷ (above, deleteAll (2 ∷ 3 ∷ []), 19) ∷ (below, deleteAll (2 ∷ 3 ∷ []), 19)
+    ∷ (pointedAt, deleteAll (2 ∷ 3 ∷ []) 0, 19) ∷ (above, deleteAll (2 ∷ 3 ∷ []) 0, 19) ∷ (below, deleteAll (2 ∷ 3 ∷ []) 0, 19)
     -- a subregion that is not named, also where pointers remain; one that is
-    ∷ (nested, deleteAll (2 ∷ []), 18) ∷ (nested, deleteAll (2 ∷ 4 ∷ []), 18) ∷ (nested, deleteAll (2 ∷ 3 ∷ []), 0) ∷ (nested, deleteAll (3 ∷ 2 ∷ []), 0)
+    ∷ (nested, deleteAll (2 ∷ []) 0, 18) ∷ (nested, deleteAll (2 ∷ 4 ∷ []) 0, 18) ∷ (nested, deleteAll (2 ∷ 3 ∷ []) 0, 0) ∷ (nested, deleteAll (3 ∷ 2 ∷ []) 0, 0)
     -- a name in turn: dead, or permanent
-    ∷ (linked, deleteAll (1 ∷ 9 ∷ []), 3) ∷ (linked, deleteAll (9 ∷ 1 ∷ []), 2) ∷ (linked, deleteAll (2 ∷ 1 ∷ []), 3) ∷ (linked, deleteAll (2 ∷ 9 ∷ []), 2) ∷ (linked, deleteAll (0 ∷ []), 2)
+    ∷ (linked, deleteAll (1 ∷ 9 ∷ []) 0, 3) ∷ (linked, deleteAll (9 ∷ 1 ∷ []) 0, 2) ∷ (linked, deleteAll (2 ∷ 1 ∷ []) 0, 3) ∷ (linked, deleteAll (2 ∷ 9 ∷ []) 0, 2) ∷ (linked, deleteAll (0 ∷ []) 0, 2)
     -- no name, 17 names, 16 names, a name twice
-    ∷ (linked, deleteAll [], 22) ∷ (linked, deleteAll (from 2 17), 22) ∷ (linked, deleteAll (from 2 16), 2) ∷ (linked, deleteAll (2 ∷ 3 ∷ 2 ∷ []), 22) ∷ (linked, deleteAll (9 ∷ 9 ∷ []), 22)
+    ∷ (linked, deleteAll [] 0, 22) ∷ (linked, deleteAll (from 2 17) 0, 22) ∷ (linked, deleteAll (from 2 16) 0, 2) ∷ (linked, deleteAll (2 ∷ 3 ∷ 2 ∷ []) 0, 22) ∷ (linked, deleteAll (9 ∷ 9 ∷ []) 0, 22)
     -- a heap that lacks a word
-    ∷ (linked but setHeap (take 255 (linked .heap)), deleteAll (2 ∷ 3 ∷ []), 21) ∷ (linked but setHeap (take 255 (linked .heap)), deleteAll [], 21)
+    ∷ (linked but setHeap (take 255 (linked .heap)), deleteAll (2 ∷ 3 ∷ []) 0, 21) ∷ (linked but setHeap (take 255 (linked .heap)), deleteAll [] 0, 21)
     -- a count of 300 between two regions
-    ∷ (crowded, deleteAll (2 ∷ []), 19) ∷ (crowded, deleteAll (3 ∷ []), 19) ∷ (crowded, deleteAll (2 ∷ 3 ∷ []), 0)
+    ∷ (crowded, deleteAll (2 ∷ []) 0, 19) ∷ (crowded, deleteAll (3 ∷ []) 0, 19) ∷ (crowded, deleteAll (2 ∷ 3 ∷ []) 0, 0)
     -- a region entered as its own region above is a subregion of its own, and named
-    ∷ (looped, delete 2, 18) ∷ (looped, deleteAll (2 ∷ []), 0)
+    ∷ (looped, delete 2 0, 18) ∷ (looped, deleteAll (2 ∷ []) 0, 0)
     ∷ []
 
 refusals : every (λ p. eqb (refusal (p .0) (p .1)) (p .2)) asked ≡ true
-unfolding blank frameCount topFrame widthAt slotAt raised kindCount sizeOf markAt nameAt entryOf tagOf isLive parentAt subregionsOf closedIn followsIn countAt withCounts rolled moved wrongLength pageCount ownerAt takenAt ownerIn ownerOf walk headersTo headersOn freeWords freeWordsOn outOf ledInto ledAmong badLength dead checks refusal countBut outgoing sizeIn entryIn subregionsIn recount wrongLengthIn ledIn ledAmongIn targetsIn freeWordsOf wrongNames nameTests
+unfolding blank frameCount topFrame widthAt slotAt raised kindCount sizeOf markAt nameAt entryOf tagOf isLive parentAt subregionsOf closedIn followsIn countAt countIn added withShares rolled moved wrongLength pageCount ownerAt takenAt ownerIn ownerOf walk headersTo headersOn freeWords freeWordsOn outOf ledInto ledAmong badLength dead checks refusal countBut outgoing sizeIn entryIn subregionsIn recount wrongLengthIn ledIn ledAmongIn targetsIn freeWordsOf wrongNames nameTests
 refusals = refl
 
 -- memories, and what is read in each of them
@@ -89,25 +89,25 @@ abbrev left : List (List Store × List (List ℕ))
 left =
     (linked ∷ [], (2 ∷ 1 ∷ 1 ∷ 2 ∷ []) ∷ (1 ∷ 2 ∷ 3 ∷ 4 ∷ []) ∷ (1 ∷ 2 ∷ 3 ∷ 4 ∷ []) ∷ (0 ∷ []) ∷ [])
     -- in either order: one pointer into region 1 went with region 2, one into region 4 with region 3, and two into it came with the lower frame, which m now has
-    ∷ (deleted linked (2 ∷ 3 ∷ []) ∷ deleted linked (3 ∷ 2 ∷ []) ∷ deleted nested (2 ∷ 3 ∷ []) ∷ [], (1 ∷ 0 ∷ 0 ∷ 3 ∷ []) ∷ (1 ∷ 0 ∷ 0 ∷ 4 ∷ []) ∷ (1 ∷ 0 ∷ 0 ∷ 4 ∷ []) ∷ (1 ∷ []) ∷ [])
-    ∷ (deleted crowded (2 ∷ 3 ∷ []) ∷ [], (0 ∷ 0 ∷ 0 ∷ 0 ∷ []) ∷ (1 ∷ 0 ∷ 0 ∷ 0 ∷ []) ∷ (0 ∷ 0 ∷ 0 ∷ 0 ∷ []) ∷ (0 ∷ []) ∷ [])
+    ∷ (deleted linked (2 ∷ 3 ∷ []) 1 ∷ deleted linked (3 ∷ 2 ∷ []) 3 ∷ deleted nested (2 ∷ 3 ∷ []) 0 ∷ [], (1 ∷ 0 ∷ 0 ∷ 3 ∷ []) ∷ (1 ∷ 0 ∷ 0 ∷ 4 ∷ []) ∷ (1 ∷ 0 ∷ 0 ∷ 4 ∷ []) ∷ (1 ∷ []) ∷ [])
+    ∷ (deleted crowded (2 ∷ 3 ∷ []) 2 ∷ [], (0 ∷ 0 ∷ 0 ∷ 0 ∷ []) ∷ (1 ∷ 0 ∷ 0 ∷ 0 ∷ []) ∷ (0 ∷ 0 ∷ 0 ∷ 0 ∷ []) ∷ (0 ∷ []) ∷ [])
     ∷ []
 
 goes : every (λ p. every (λ S. equal (equal eqb) (reads S) (p .1)) (p .0)) left ≡ true
-unfolding blank frameCount topFrame widthAt slotAt raised kindCount sizeOf markAt nameAt entryOf tagOf countAt withoutRegions withCounts rolled moved pageCount ownerAt takenAt ownerIn ownerOf freed walk headersTo headersOn freeWords freeWordsOn outOf slotTargets recounted outgoing newlyCounted deleted sizeIn entryIn recount targetsIn newlyIn freeWordsOf ownersTo
+unfolding blank frameCount topFrame widthAt slotAt raised kindCount sizeOf markAt nameAt entryOf tagOf countAt countIn added withoutRegions withShares rolled moved pageCount ownerAt takenAt ownerIn ownerOf freed walk headersTo headersOn freeWords freeWordsOn outOf slotTargets recounted outgoing newlyCounted deleted sizeIn entryIn recount targetsIn newlyIn freeWordsOf ownersTo
 goes = refl
 
 -- the pages of both are given back: one and one, seven and one
-gave : Accepted (deleteAll (2 ∷ 3 ∷ [])) linked (gives (2 ∷ [])) (deleted linked (2 ∷ 3 ∷ [])) × Accepted (deleteAll (2 ∷ 3 ∷ [])) crowded (gives (8 ∷ [])) (deleted crowded (2 ∷ 3 ∷ []))
+gave : Accepted (deleteAll (2 ∷ 3 ∷ []) 1) linked (gives (2 ∷ [])) (deleted linked (2 ∷ 3 ∷ []) 1) × Accepted (deleteAll (2 ∷ 3 ∷ []) 2) crowded (gives (8 ∷ [])) (deleted crowded (2 ∷ 3 ∷ []) 2)
 unfolding blank Accepted entryOf tagOf entryIn pagesIn pagesOf
 gave = ((refl, refl), (refl, refl))
 
 -- the audit accepts the memories, and what three of the deletes leave, but not the one with a region entered as its own region above
-exact : (every sound (linked ∷ nested ∷ pointedAt ∷ above ∷ below ∷ crowded ∷ deleted linked (2 ∷ 3 ∷ []) ∷ deleted linked (3 ∷ 2 ∷ []) ∷ deleted crowded (2 ∷ 3 ∷ []) ∷ []) && not (sound looped)) ≡ true
-unfolding blank frameCount topFrame widthAt slotAt raised kindCount sizeOf markAt nameAt entryOf tagOf countAt withoutRegions withCounts rolled moved pageCount ownerAt takenAt ownerIn ownerOf freed walk headersTo headersOn freeWords freeWordsOn outOf slotTargets recounted outgoing newlyCounted deleted sizeIn entryIn recount targetsIn newlyIn freeWordsOf ownersTo nameOf parentAt levelAt newestAt oldestAt isFree entries listedRegions listedKinds listedFrames listedHeld listedFree metOn begin slotsOf pointersOf leads homeOf slotsLeadingTo wordsLeadingTo outside uncountedInto storedCount countsExact slotsLead wordsLead pagesHeld filled placed newestOwn oldestOwn nameIn sound climb
+exact : (every sound (linked ∷ nested ∷ pointedAt ∷ above ∷ below ∷ crowded ∷ deleted linked (2 ∷ 3 ∷ []) 1 ∷ deleted linked (3 ∷ 2 ∷ []) 3 ∷ deleted crowded (2 ∷ 3 ∷ []) 2 ∷ []) && not (sound looped)) ≡ true
+unfolding blank frameCount topFrame widthAt slotAt raised kindCount sizeOf markAt nameAt entryOf tagOf countAt countIn added withoutRegions withShares rolled moved pageCount ownerAt takenAt ownerIn ownerOf freed walk headersTo headersOn freeWords freeWordsOn outOf slotTargets recounted outgoing newlyCounted deleted sizeIn entryIn recount targetsIn newlyIn freeWordsOf ownersTo nameOf parentAt levelAt newestAt oldestAt isFree entries listedRegions listedKinds listedFrames listedHeld listedFree metOn begin slotsOf pointersOf leads homeOf slotsLeadingTo wordsLeadingTo outside uncountedInto storedCount countsExact slotsLead wordsLead pagesHeld filled placed newestOwn oldestOwn nameIn sound climb
 exact = refl
 
 -- no word of the heap changed, and no page has more or fewer words taken
-stays : let S = deleted linked (2 ∷ 3 ∷ []) in (S .heap ≡ linked .heap) × ((pages S) .taken ≡ (pages linked) .taken)
+stays : let S = deleted linked (2 ∷ 3 ∷ []) 1 in (S .heap ≡ linked .heap) × ((pages S) .taken ≡ (pages linked) .taken)
 unfolding deleted recounted freed
 stays = (refl, refl)

@@ -16,17 +16,17 @@ use Rattle.lists.specs.Laws.Finds.{any-map, false-any}
 use Rattle.lists.specs.Laws.Kept.{any-members}
 use Rattle.lists.specs.Laws.Zeroed.{zeroed-length, zeroed-at}
 use Rattle.regions.specs.declared.Regions.{Regions}
-use Rattle.regions.specs.Regions.{entryOf, tagOf, clearedAt}
+use Rattle.regions.specs.Regions.{entryOf, tagOf, countIn, clearedAt}
 use Rattle.regions.specs.Laws.Removed.{cleared-length, cleared-at}
 use Rattle.regions.specs.Laws.Tags.{tag-entry, entries-below}
 use Rattle.joint_parts.specs.Joint.{stillCounted, namesLeft}
 
 module _ (g : Regions) (rs : List ℕ) (live : All (λ r. entryOf g r < 64) rs) where
   -- some count of the regions named is not 0
-  pub still-are : (cs : List ℕ) → stillCounted cs (λ t. among t (map (tagOf g) rs)) ≡ anyOf (λ r. not (eqb (getD cs (entryOf g r) 0) 0)) rs
+  pub still-are : (cs : List ℕ) → stillCounted cs (λ t. among t (map (tagOf g) rs)) ≡ anyOf (λ r. not (eqb (countIn cs (entryOf g r)) 0)) rs
   unfolding stillCounted
   still-are cs =
-      let some : ℕ → Bool = λ i. not (eqb (getD cs i 0) 0) in
+      let some : ℕ → Bool = λ i. not (eqb (countIn cs i) 0) in
       ap (λ f. anyOf f (upTo 64)) (fun-ext (λ i. ap (λ b. b && some i) (tag-entry g rs i)))
       ∙ any-members some 64 (map (entryOf g) rs) (entries-below g rs live)
       ∙ any-map some (entryOf g) rs

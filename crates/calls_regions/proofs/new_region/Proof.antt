@@ -38,7 +38,7 @@ returns-2 c =
     let t = i .before .before .before .before in
     let g = t .before .new-refusal .ensures in
     by-effect _ _ _ _ (tests _ ∙ sym g ∙ t .if1 .left)
-    (c .gives .ensures, rw (o .put-word3 .ensures, n .put-half .ensures, k .put-word2 .ensures, l .put-byte2 .ensures, p .put-byte .ensures, a .put-word .ensures, i .unused .ensures))
+    (c .gives .ensures, rw (o .put-word2 .ensures, n .put-half .ensures, k .clear-shares .ensures, l .put-byte2 .ensures, p .put-byte .ensures, a .put-word .ensures, i .unused .ensures))
 
 pub new-region-spec : {M : Type 1} → statement M
 new-region-spec = tie.close (tie.spec (λ c κs. search needs) (λ c κs. search needs) returns name-fits (λ c κs. search needs) (λ c κs. search needs) (λ c κs. search needs) (λ c κs. search needs) (λ c κs. search needs) (λ c κs. search needs) (λ c κs. search needs) (λ c κs. search needs) returns-2)

@@ -52,7 +52,7 @@ returns-2 c =
     let g = t .before .subregion-refusal .ensures in
     let e = t .before .before .before .before .before .before .before .entry-of .ensures in
     by-effect _ _ _ _ (tests _ _ _ e ∙ sym g ∙ t .if1 .left)
-    (c .gives .ensures, rw (o .put-word3 .ensures, n .put-half .ensures, k .put-word2 .ensures, l .put-byte2 .ensures, p .put-byte .ensures, a .put-word .ensures, i .unused .ensures, v .level-at .ensures, e))
+    (c .gives .ensures, rw (o .put-word2 .ensures, n .put-half .ensures, k .clear-shares .ensures, l .put-byte2 .ensures, p .put-byte .ensures, a .put-word .ensures, i .unused .ensures, v .level-at .ensures, e))
 
 pub subregion-spec : {M : Type 1} → statement M
 subregion-spec = tie.close (tie.spec (λ c κs. search needs) (λ c κs. search needs) (λ c κs. search needs) returns name-fits (λ c. omega (arith, tag-fits c .fits)) tag-fits (λ c κs. search needs) (λ c. omega (arith, level-fits c .fits)) level-fits (λ c κs. search needs) (λ c κs. search needs) (λ c κs. search needs) (λ c κs. search needs) (λ c κs. search needs) (λ c κs. search needs) (λ c κs. search needs) (λ c κs. search needs) returns-2)

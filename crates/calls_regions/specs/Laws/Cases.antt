@@ -7,7 +7,7 @@ use Prim.Native.Nat.{ℕ, suc, _+_}
 use lib.Dec.{eqb}
 use Rattle.lists.specs.Lists.{every, upTo}
 use Rattle.model.specs.Model.{newRegion, subregion}
-use Rattle.regions.specs.Regions.{nameAt, entryOf, tagOf, isLive, liveCount, levelAt, countAt, unused, withRegion, entryIn, liveIn, unusedIn}
+use Rattle.regions.specs.Regions.{nameAt, entryOf, tagOf, isLive, liveCount, levelAt, countAt, countIn, added, unused, withRegion, entryIn, liveIn, unusedIn}
 use Rattle.pages.specs.Pages.{wrongLength, wrongLengthIn}
 use Rattle.outcomes.specs.Store.{Store, regions}
 use Rattle.outcomes.specs.Outcome.{badLength, dead, full, namesOut, checks, refusal}
@@ -26,7 +26,7 @@ cases =
     -- same_name_twice
     ∷ ((regions small) .given, 7)
     ∷ ((regions grown) .given, 8)
-    -- new_count_is_not_0: the entry held 77
+    -- new_region_keeps_shares: the entry held 77
     ∷ (countAt (regions small) 1, 77)
     ∷ (countAt (regions grown) 1, 0)
     -- subregion_at_the_level_above: region 5 is at level 2
@@ -34,5 +34,5 @@ cases =
     ∷ []
 
 pub computed : every (λ p. eqb (p .0) (p .1)) cases ≡ true
-unfolding nameAt entryOf tagOf isLive liveCount levelAt countAt unused withRegion wrongLength badLength dead full namesOut checks refusal entryIn liveIn unusedIn wrongLengthIn
+unfolding nameAt entryOf tagOf isLive liveCount levelAt countAt countIn added unused withRegion wrongLength badLength dead full namesOut checks refusal entryIn liveIn unusedIn wrongLengthIn
 computed = refl

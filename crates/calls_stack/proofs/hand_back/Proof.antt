@@ -1,16 +1,17 @@
 use mathlib.Core.Path.{_≡_, refl, sym, ap, _∙_}
 use borrow.Author.Needs.{needs}
 use Rattle.frames.specs.Frames.{topIn, topFrame, slotAt, putSlot, popped}
-use Rattle.regions.specs.Regions.{withCounts}
+use Rattle.regions.specs.Regions.{withShares}
 use Rattle.outcomes.specs.Store.{slot}
 use Rattle.outcomes.specs.Outcome.{Accepted, fillSlot}
 use Rattle.outcomes.specs.Laws.Steps.{by-refusal, by-effect}
+use Rattle.checks.specs.Laws.Tests.{first-zero, filler-passed}
 use Rattle.calls_stack.proofs.Laws.{hand-tests, pop-is}
 use Rattle.calls_stack.proofs.hand_back.Statement.{statement}
 use Rattle.calls_stack.proofs.hand_back.Tie as tie
 
 returns : tie.Need-returns
-returns c = by-refusal _ _ _ _ _ (hand-tests _ _ _ ∙ sym (c .before .before .beneath-refusal .ensures)) (c .before .if1 .taken) (c .refused .ensures) refl
+returns c = by-refusal _ _ _ _ _ (hand-tests _ _ _ _ ∙ sym (c .before .before .hand-refusal .ensures)) (c .before .if1 .taken) (c .refused .ensures) refl
 
 -- the frame written is the one that was beneath the top
 beneath : (c : tie.After-top2)
@@ -19,21 +20,22 @@ beneath : (c : tie.After-top2)
 beneath c = c .top2 .ensures ∙ ap topIn (c .before .before .before .top .ensures)
 
 returns-2 : tie.Need-returns-2
-unfolding Accepted topFrame popped withCounts slot slotAt fillSlot putSlot
+unfolding Accepted topFrame popped withShares slot slotAt fillSlot putSlot
 returns-2 c =
     let w = c .before in
     let t = w .before .before .before .before in
     let k = t .before .before in
-    let u = k .before .before .before in
-    let z = u .before .before .before .before .before .before .before .before .before .before in
+    let u = k .before in
+    let z = u .before .before .before .before .before .before .before .before .before .before .before .before in
     let v = z .before .before in
     let i = v .before .before .before .before in
     let a = i .before .before .before .before .before .before .args in
-    by-effect _ _ _ _ (hand-tests _ _ _ ∙ sym (i .before .beneath-refusal .ensures) ∙ i .if1 .left) (
+    let e = sym (i .before .hand-refusal .ensures) ∙ i .if1 .left in
+    by-effect _ _ _ _ (hand-tests _ _ _ _ ∙ e) (
       c .gives .ensures ∙ rw (t .top .ensures),
       rw (w .put-slot .ensures, beneath (w .before), t .top .ensures, k .counted-after .ensures, v .top-slot .ensures)
-          (ap (λ T. fillSlot T (a .beneath) (slotAt (a .s .frames) (topFrame (a .s .frames)) (a .slot))) (pop-is _ _ (z .counts-shaped .ensures) (u .uncount-top .ensures))),
+          (ap (λ T. fillSlot T (a .beneath) (slotAt (a .s .frames) (topFrame (a .s .frames)) (a .slot))) (pop-is _ _ _ (filler-passed _ _ _ (first-zero _ _ e)) (z .shares-shaped .ensures) (u .uncount-top .ensures))),
     )
 
 pub hand-back-spec : {M : Type 1} → statement M
-hand-back-spec = tie.close (tie.spec (λ c κs. search needs) (λ c κs. search needs) returns (λ c κs. search needs) (λ c κs. search needs) (λ c. search needs) (λ c κs. search needs) (λ c κs. search needs) (λ c κs. search needs) (λ c κs. search needs) (λ c κs. search needs) (λ c κs. search needs) returns-2)
+hand-back-spec = tie.close (tie.spec (λ c κs. search needs) (λ c κs. search needs) returns (λ c κs. search needs) (λ c κs. search needs) (λ c κs. search needs) (λ c κs. search needs) (λ c κs. search needs) (λ c κs. search needs) (λ c κs. search needs) (λ c κs. search needs) returns-2)

@@ -12,10 +12,10 @@ use Rattle.checks.proofs.enter_frame.Tie as tie
 
 -- the slots passed have entered
 abbrev Inv-loop : tie.InvT-loop
-Inv-loop widths slots owners c₀ i n k₀ c k = (n ≡ widthIn widths i) × (k ≤ n) × (c ≡ steps 1 c₀ (tagsTo slots owners i k))
+Inv-loop widths slots owners c₀ f i n k₀ c k = (n ≡ widthIn widths i) × (k ≤ n) × (c ≡ steps 1 f c₀ (tagsTo slots owners i k))
 
 abbrev μ-loop : tie.MeasureT-loop
-μ-loop widths slots owners c₀ i n k₀ c k = n - k
+μ-loop widths slots owners c₀ f i n k₀ c k = n - k
 
 loop-holds : tie.Need-loop-holds Inv-loop μ-loop
 unfolding steps
@@ -28,11 +28,11 @@ loop-again c =
     let a = l .before .before .before .before .before .before .args in (
       l .loop .inv .0,
       omega arith,
-      e .enter .ensures ∙ rw (l .loop .inv .2, e .before .before .owner-of .ensures, e .before .before .before .slot-at .ensures) (step-next (a .slots .now) (a .owners .now) (a .i) 1 (a .counts .now) (l .loop .k)),
+      e .enter .ensures ∙ rw (l .loop .inv .2, e .before .before .owner-of .ensures, e .before .before .before .slot-at .ensures) (step-next (a .slots .now) (a .owners .now) (a .i) 1 (a .filler) (a .shares .now) (l .loop .k)),
     )
 
 same-length : tie.Need-same-length Inv-loop μ-loop
-same-length c = let l = c .before in ap length (l .loop .inv .2) ∙ steps-length 1 (l .before .before .before .before .before .before .args .counts .now) _
+same-length c = let l = c .before in ap length (l .loop .inv .2) ∙ steps-length 1 _ (l .before .before .before .before .before .before .args .shares .now) _
 
 returns : tie.Need-returns Inv-loop μ-loop
 unfolding targetsIn

@@ -12,10 +12,10 @@ use Rattle.checks.proofs.leave_frame.Tie as tie
 
 -- the slots passed have left
 abbrev Inv-loop : tie.InvT-loop
-Inv-loop widths slots owners c₀ i n k₀ c k = (n ≡ widthIn widths i) × (k ≤ n) × (c ≡ steps 4294967295 c₀ (tagsTo slots owners i k))
+Inv-loop widths slots owners c₀ f i n k₀ c k = (n ≡ widthIn widths i) × (k ≤ n) × (c ≡ steps 4294967295 f c₀ (tagsTo slots owners i k))
 
 abbrev μ-loop : tie.MeasureT-loop
-μ-loop widths slots owners c₀ i n k₀ c k = n - k
+μ-loop widths slots owners c₀ f i n k₀ c k = n - k
 
 loop-holds : tie.Need-loop-holds Inv-loop μ-loop
 unfolding steps
@@ -28,11 +28,11 @@ loop-again c =
     let a = l .before .before .before .before .before .before .args in (
       l .loop .inv .0,
       omega arith,
-      e .leave .ensures ∙ rw (l .loop .inv .2, e .before .before .owner-of .ensures, e .before .before .before .slot-at .ensures) (step-next (a .slots .now) (a .owners .now) (a .i) 4294967295 (a .counts .now) (l .loop .s)),
+      e .leave .ensures ∙ rw (l .loop .inv .2, e .before .before .owner-of .ensures, e .before .before .before .slot-at .ensures) (step-next (a .slots .now) (a .owners .now) (a .i) 4294967295 (a .filler) (a .shares .now) (l .loop .s)),
     )
 
 same-length : tie.Need-same-length Inv-loop μ-loop
-same-length c = let l = c .before in ap length (l .loop .inv .2) ∙ steps-length 4294967295 (l .before .before .before .before .before .before .args .counts .now) _
+same-length c = let l = c .before in ap length (l .loop .inv .2) ∙ steps-length 4294967295 _ (l .before .before .before .before .before .before .args .shares .now) _
 
 returns : tie.Need-returns Inv-loop μ-loop
 unfolding targetsIn

@@ -15,12 +15,12 @@ use Rattle.delete_parts.proofs.enter_frames.Tie as tie
 
 -- when the frames left enter too, all have entered
 abbrev Inv-loop : tie.InvT-loop
-Inv-loop standing counted widths slots owners c₀ n i₀ c i =
+Inv-loop standing counted widths slots owners c₀ f n i₀ c i =
     (n ≡ frameCountIn standing - 1) × (length c ≡ length c₀)
-    × (enterings c (joined (targetsIn widths slots owners) (from i (frameCountIn standing - 1 - i))) ≡ enterings c₀ (newlyIn standing counted widths slots owners))
+    × (enterings f c (joined (targetsIn widths slots owners) (from i (frameCountIn standing - 1 - i))) ≡ enterings f c₀ (newlyIn standing counted widths slots owners))
 
 abbrev μ-loop : tie.MeasureT-loop
-μ-loop standing counted widths slots owners c₀ n i₀ c i = n - i
+μ-loop standing counted widths slots owners c₀ f n i₀ c i = n - i
 
 loop-holds : tie.Need-loop-holds Inv-loop μ-loop
 unfolding newlyIn
@@ -38,8 +38,8 @@ loop-again c =
     let n = frameCountIn (a .standing) - 1 in
     let i = l .loop .i in (
       l .loop .inv .0,
-      ap length (e .enter-frame .ensures) ∙ steps-length 1 (l .loop .counts) (g i) ∙ l .loop .inv .1,
-      rw (e .enter-frame .ensures, steps-append 1 (l .loop .counts) (g i) (joined g (from (i + 1) (n - (i + 1))))) (rw (from-next i n (omega arith)) at (l .loop .inv .2)),
+      ap length (e .enter-frame .ensures) ∙ steps-length 1 _ (l .loop .shares) (g i) ∙ l .loop .inv .1,
+      rw (e .enter-frame .ensures, steps-append 1 (a .filler) (l .loop .shares) (g i) (joined g (from (i + 1) (n - (i + 1))))) (rw (from-next i n (omega arith)) at (l .loop .inv .2)),
     )
 
 same-length : tie.Need-same-length Inv-loop μ-loop

@@ -3,13 +3,13 @@
 use mathlib.Core.Path.{_≡_, refl, sym, ap, _∙_, subst⁻¹, fun-ext}
 use mathlib.Core.Logic.{_↔_, _≢_, _⊎_, inl, inr}
 use mathlib.Core.Bool.{Bool, true, false, _||_}
-use mathlib.Core.List.{List, [], _∷_, map}
-use Prim.Native.Nat.{ℕ, zero, suc, _≤_, _<_}
+use mathlib.Core.List.{List, [], _∷_, _++_, map, append-nil}
+use Prim.Native.Nat.{ℕ, zero, suc, _+_, _*_, _≤_, _<_}
 use native.Mathlib.Nat.{add-zero}
 use native.Mathlib.Omega.{arith}
 use lib.Dec.{eqb, ltb}
-use lib.ListN.{length, getD}
-use borrow.Author.Tests.{eqb-true, ltb-true, not-false}
+use lib.ListN.{length, getD, List·getD-eq-default}
+use borrow.Author.Tests.{eqb-true, ne-eqb, ltb-true, ltb-false, not-false}
 use Rattle.lists.specs.Lists.{bit, pick, sumOf, countOf, All, upTo, times, among, repeats}
 use Rattle.lists.specs.Laws.Tests.{by-test, neither}
 use Rattle.lists.specs.Laws.All.{all-map}
@@ -21,9 +21,8 @@ use Rattle.model.specs.Calls.{wrongNames}
 use Rattle.model.specs.Laws.Passed.{names-passed}
 use Rattle.frames.specs.Frames.{raised}
 use Rattle.regions.specs.declared.Regions.{Regions}
-use Rattle.regions.specs.Regions.{nameAt, entryOf, tagOf, isLive, countAt, withCounts, withoutRegions, recount}
-use Rattle.regions.specs.Laws.Counts.{Counts}
-use Rattle.regions.specs.Laws.Recount.{recount-same, recount-alike}
+use Rattle.regions.specs.Regions.{nameAt, entryOf, tagOf, isLive, shareAt, countAt, withShares, withoutRegions, rolled, recount}
+use Rattle.regions.specs.Laws.Recount.{total-still, recount-same, recount-share, recount-at, recount-length, recount-alike}
 use Rattle.regions.specs.Laws.Removed.{name-left}
 use Rattle.regions.specs.Laws.Tags.{tag-entry, entries-used, tags-once}
 use Rattle.pages.specs.Pages.{pageCount, pagesWith, ownerAt, takenAt, ownerIn, pagesOf}
@@ -31,48 +30,56 @@ use Rattle.pages.specs.Laws.Freed.{freed-owner}
 use Rattle.objects.specs.Objects.{freeWordsOn, outOf}
 use Rattle.objects.specs.Laws.Leaving.{out-alike}
 use Rattle.outcomes.specs.Store.{Store, frames, kinds, regions, pages}
-use Rattle.outcomes.specs.Shape.{Sized, Bits32}
-use Rattle.outcomes.specs.Outcome.{Outcome, Accepted, Answered, Leaves, checks, refusal, dead, countBut, withFrames, withRegions, recounted, newlyCounted, deleted}
+use Rattle.outcomes.specs.Shape.{Sized}
+use Rattle.outcomes.specs.Outcome.{Outcome, Accepted, Answered, Leaves, checks, refusal, dead, outgoing, countBut, withFrames, withRegions, recounted, newlyCounted, deleted}
 use Rattle.outcomes.specs.Apart.{Way, pageScanned, pageGiven, turn, eachPage, scanned, givenBack, scanThenGive, pageByPage, named, deletedBy, DeletesBy}
-use Rattle.outcomes.specs.Laws.Bounded.{below-at}
-use Rattle.outcomes.specs.Laws.Apart.{apart, mine, outBy, outFrom, each-is, turns-are, leftBy, freeing, not-yet, freeing-own, freeing-other, given-is}
-use Rattle.outcomes.specs.Laws.Deleted.{left-are, scan-leaves, told-pages, entries, gone, deleted-leaves, told, free, told-gone, told-deleted, told-number}
+use Rattle.outcomes.specs.Laws.Apart.{apart, mine, outBy, outFrom, each-is, turns-are, leftBy, left-recount, still, scanned-is, freeing, not-yet, freeing-own, freeing-other, given-is}
+use Rattle.outcomes.specs.Laws.Deleted.{out-same, told-pages, entries, gone, deleted-leaves, told, free, told-gone, told-deleted, told-number}
 use Rattle.promises.specs.Laws.Passed.{passed}
 use Rattle.demands.specs.Later.{ScanMovesNoPage, GivingMovesNoCount, ScansThenGives, SameDelete, OneButGone, DeleteIs, DeleteAllIs}
 
 -- ---- what stays
 
-module _ (S : Store) (member : ℕ → Bool) where
-  -- T is S but for stored counts
+module _ (f : ℕ) (S : Store) (member : ℕ → Bool) where
+  -- T is S but for the filler's shares of stored counts
   abbrev Counting : Store → Type 0
-  Counting T = (pages T ≡ pages S) × (frames T ≡ frames S) × (kinds T ≡ kinds S) × (T .heap ≡ S .heap) × (regions T ≡ withCounts (regions S) ((regions T) .counts))
+  Counting T =
+      (pages T ≡ pages S) × (frames T ≡ frames S) × (kinds T ≡ kinds S) × (T .heap ≡ S .heap) × (regions T ≡ withShares (regions S) ((regions T) .shares))
+      × ((h i : ℕ) → h ≤ 3 → i < 64 → h ≢ f → shareAt (regions T) h i ≡ shareAt (regions S) h i)
 
-  one-scanned : (T : Store) (j : ℕ) → Counting T → Counting (pageScanned T j)
-  unfolding pageScanned recounted recount withCounts
-  one-scanned T j h = (h .0, h .1, h .2, h .3, ap (λ g. withCounts g ((regions (pageScanned T j)) .counts)) (h .4))
+  one-scanned : (T : Store) (j : ℕ) → Counting T → Counting (pageScanned f T j)
+  unfolding pageScanned recounted recount withShares
+  one-scanned T j h = (
+    h .0,
+    h .1,
+    h .2,
+    h .3,
+    ap (λ g. withShares g ((regions (pageScanned f T j)) .shares)) (h .4),
+    λ k i small low d. recount-share (regions T) f [] _ k i (omega arith) low ∙ rw (ne-eqb k f d) (h .5 k i small low d),
+  )
 
-  all-scanned : (n : ℕ) → Counting (eachPage pageScanned member S n)
-  unfolding eachPage turn withCounts
-  all-scanned zero = (refl, refl, refl, refl, refl)
-  all-scanned (suc n) = go (eachPage pageScanned member S n) (member (ownerAt (pages (eachPage pageScanned member S n)) n)) (all-scanned n)
+  all-scanned : (n : ℕ) → Counting (eachPage (pageScanned f) member S n)
+  unfolding eachPage turn withShares
+  all-scanned zero = (refl, refl, refl, refl, refl, λ h i small low d. refl)
+  all-scanned (suc n) = go (eachPage (pageScanned f) member S n) (member (ownerAt (pages (eachPage (pageScanned f) member S n)) n)) (all-scanned n)
     where
-      go : (T : Store) (b : Bool) → Counting T → Counting (pick b (pageScanned T n) T)
+      go : (T : Store) (b : Bool) → Counting T → Counting (pick b (pageScanned f T n) T)
       go T true h = one-scanned T n h
       go T false h = h
 
 pub scan-moves-no-page : ScanMovesNoPage
 unfolding ScanMovesNoPage scanned
-scan-moves-no-page S member = all-scanned S member (pageCount (pages S))
+scan-moves-no-page f S member = all-scanned f S member (pageCount (pages S))
 
 pub giving-moves-no-count : GivingMovesNoCount
-unfolding GivingMovesNoCount givenBack withCounts
+unfolding GivingMovesNoCount givenBack withShares
 giving-moves-no-count S member =
     subst⁻¹ (λ T. (regions T ≡ regions S) × (frames T ≡ frames S) × (kinds T ≡ kinds S) × (T .heap ≡ S .heap) × (pages T ≡ pagesWith ((pages S) .made) ((pages T) .owners) ((pages S) .taken)))
     (given-is S member (pageCount (pages S))) (refl, refl, refl, refl, refl)
 
 -- ---- page by page
 
-module _ (S : Store) (member : ℕ → Bool) where
+module _ (f : ℕ) (S : Store) (member : ℕ → Bool) where
   abbrev owners : List ℕ
   owners = (pages S) .owners
 
@@ -81,10 +88,10 @@ module _ (S : Store) (member : ℕ → Bool) where
   outNow = outBy (freeing S member) (kinds S) (S .heap) (pages S) member
 
   abbrev left : ℕ → Regions
-  left = leftBy S member (freeing S member)
+  left = leftBy S member f (freeing S member)
 
   abbrev step : Store → ℕ → Store
-  step T j = pageGiven (pageScanned T j) j
+  step T j = pageGiven (pageScanned f T j) j
 
   starts : S ≡ apart S (left 0) (freeing S member 0)
   unfolding leftBy
@@ -101,11 +108,11 @@ module _ (S : Store) (member : ℕ → Bool) where
   abbrev pagesOn : ℕ
   pagesOn = pageCount (pages S)
 
-  paged-leaves : pageByPage S member .0 ≡ apart S (left pagesOn) (freeing S member pagesOn)
+  paged-leaves : pageByPage f S member .0 ≡ apart S (left pagesOn) (freeing S member pagesOn)
   unfolding pageByPage
   paged-leaves = each-is S member step left (freeing S member) starts next pagesOn
 
-  paged-pages : pageByPage S member .1 ≡ countOf (mine owners member) (upTo pagesOn)
+  paged-pages : pageByPage f S member .1 ≡ countOf (mine owners member) (upTo pagesOn)
   unfolding pageByPage
   paged-pages = turns-are S member step left (freeing S member) starts next (not-yet S member) pagesOn
 
@@ -133,68 +140,80 @@ module _ (S : Store) (member : ℕ → Bool) where
 
 -- ---- what a delete leaves
 
-module _ (S : Store) (rs : List ℕ) where
+-- past the end of the array a share is 0
+share-past : (g : Regions) (h i : ℕ) → length (g .shares) ≤ 4 * i → shareAt g h i ≡ 0
+unfolding shareAt
+share-past g h i l = List·getD-eq-default (g .shares) 0 {n = 4 * i + h} (omega arith)
+
+-- the shares of an entry change alike by lists that have its tag equally often, past the 64 entries too, where there are none
+alike-anywhere : (g : Regions) (f : ℕ) (come a b : List ℕ) (h i : ℕ) → h ≤ 3 → times (suc i) a ≡ times (suc i) b → shareAt (recount g f come a) h i ≡ shareAt (recount g f come b) h i
+alike-anywhere g f come a b h i small e = by-test (ltb i 64) (λ l. recount-alike g f come a b h i (omega arith) (ltb-true i 64 l) e) (λ l. past a (ltb-false i 64 l) ∙ sym (past b (ltb-false i 64 l)))
+  where
+    past : (gone : List ℕ) → 64 ≤ i → shareAt (recount g f come gone) h i ≡ 0
+    past gone l = share-past (recount g f come gone) h i (omega (arith, recount-length g f come gone))
+
+module _ (f : ℕ) (S : Store) (rs : List ℕ) where
   abbrev paged : List ℕ
-  paged = outNow S (named S rs) (pageCount (pages S))
+  paged = outNow f S (named S rs) (pageCount (pages S))
 
-  paged-gone : deletedBy pageByPage S rs ≡ gone S rs paged (free S rs)
-  paged-gone = deleted-leaves S rs pageByPage (freeing S (named S rs)) (free S rs) (paged-leaves S (named S rs))
+  paged-gone : deletedBy pageByPage f S rs ≡ gone f S rs paged (free f S rs)
+  paged-gone = deleted-leaves f S rs pageByPage (freeing S (named S rs)) (free f S rs) (paged-leaves f S (named S rs))
 
-  same-number : pageByPage S (named S rs) .1 ≡ scanThenGive S (named S rs) .1
-  same-number = paged-pages S (named S rs) ∙ sym (told-pages S (named S rs))
+  same-number : pageByPage f S (named S rs) .1 ≡ scanThenGive f S (named S rs) .1
+  same-number = paged-pages f S (named S rs) ∙ sym (told-pages f S (named S rs))
 
   -- into a region that is no member, or the only one
-  alike : (i : ℕ) → ((x : ℕ) → named S rs x ≡ true → named S rs (suc i) ≡ true → suc i ≡ x) → times (suc i) (told S rs) ≡ times (suc i) paged
-  alike i only = sym (words-alike S (named S rs) (suc i) (λ q. omega arith) only (pageCount (pages S)))
+  alike : (i : ℕ) → ((x : ℕ) → named S rs x ≡ true → named S rs (suc i) ≡ true → suc i ≡ x) → times (suc i) (told f S rs) ≡ times (suc i) paged
+  alike i only = sym (words-alike f S (named S rs) (suc i) (λ q. omega arith) only (pageCount (pages S)))
 
-  -- all counts, where one region goes
-  all-alike : ((u x : ℕ) → named S rs x ≡ true → named S rs u ≡ true → u ≡ x) → deletedBy scanThenGive S rs ≡ deletedBy pageByPage S rs
+  -- all shares, where one region goes
+  all-alike : ((u x : ℕ) → named S rs x ≡ true → named S rs u ≡ true → u ≡ x) → deletedBy scanThenGive f S rs ≡ deletedBy pageByPage f S rs
   all-alike only =
-      told-gone S rs
-      ∙ ap (λ g. withFrames (withRegions (apart S (regions S) (free S rs)) (withoutRegions g (entries S rs))) (raised (frames S))) (recount-same (regions S) (newlyCounted S) (told S rs) paged (λ i. alike i (only (suc i))))
+      told-gone f S rs
+      ∙ ap (λ g. withFrames (withRegions (apart S (regions S) (free f S rs)) (withoutRegions g (entries f S rs))) (raised (frames S))) (recount-same (regions S) f (newlyCounted S) (told f S rs) paged (λ i. alike i (only (suc i))))
       ∙ sym paged-gone
 
   -- of several, those of the entries that are not given up
-  some-alike : All (λ r. entryOf (regions S) r < 64) rs → OneButGone S (deletedBy scanThenGive S rs) (deletedBy pageByPage S rs)
-  unfolding withCounts withoutRegions recount countAt
-  some-alike live = rw (told-gone S rs, paged-gone) (refl, λ i h. recount-alike (regions S) (newlyCounted S) (told S rs) paged i (alike i (λ x m n. absurd (stays i (sym (tag-entry (regions S) rs i) ∙ n) h))))
+  some-alike : All (λ r. entryOf (regions S) r < 64) rs → OneButGone S (deletedBy scanThenGive f S rs) (deletedBy pageByPage f S rs)
+  unfolding withShares withoutRegions recount shareAt
+  some-alike live = rw (told-gone f S rs, paged-gone) (refl, λ e i k h. alike-anywhere (regions S) f (newlyCounted S) (told f S rs) paged e i k (alike i (λ x m n. absurd (stays i (sym (tag-entry (regions S) rs i) ∙ n) h))))
     where
-      stays : (i : ℕ) → among i (entries S rs) ≡ true → (nameAt (regions (gone S rs (told S rs) (free S rs))) i ≢ 0) ⊎ (nameAt (regions S) i ≡ 0) → ⊥
-      stays i e (inl u) = u (name-left (recount (regions S) (newlyCounted S) (told S rs)) (entries S rs) i ∙ rw e)
-      stays i e (inr z) = all-among (λ j. nameAt (regions S) j ≢ 0) (entries S rs) (entries-used (regions S) rs live) i e z
+      stays : (i : ℕ) → among i (entries f S rs) ≡ true → (nameAt (regions (gone f S rs (told f S rs) (free f S rs))) i ≢ 0) ⊎ (nameAt (regions S) i ≡ 0) → ⊥
+      stays i e (inl u) = u (name-left (recount (regions S) f (newlyCounted S) (told f S rs)) (entries f S rs) i ∙ rw e)
+      stays i e (inr z) = all-among (λ j. nameAt (regions S) j ≢ 0) (entries f S rs) (entries-used (regions S) rs live) i e z
 
 -- ---- the outcomes of the calls
 
-module _ (S : Store) (c : Call) (rs : List ℕ) (k : ℕ) (accepts : (a : Answer) (T : Store) → Accepted c S a T ≡ Leaves a (gives (k ∷ [])) T (deleted S rs)) (way : Way) where
+module _ (f : ℕ) (S : Store) (c : Call) (rs : List ℕ) (k : ℕ) (accepts : (a : Answer) (T : Store) → Accepted c S a T ≡ Leaves a (gives (k ∷ [])) T (deleted S rs f)) (way : Way) where
   -- the way gives and leaves what the call does, where its tests accept
-  same-outcomes : (refusal S c ≡ 0 → (k ≡ way S (named S rs) .1) × (deleted S rs ≡ deletedBy way S rs)) → (a : Answer) (T : Store) → Outcome c S a T ↔ DeletesBy way (refusal S c) rs S a T
+  same-outcomes : (refusal S c ≡ 0 → (k ≡ way f S (named S rs) .1) × (deleted S rs f ≡ deletedBy way f S rs)) → (a : Answer) (T : Store) → Outcome c S a T ↔ DeletesBy way f (refusal S c) rs S a T
   unfolding Outcome
   same-outcomes h a T = go (refusal S c) h
     where
-      go : (n : ℕ) → (n ≡ 0 → (k ≡ way S (named S rs) .1) × (deleted S rs ≡ deletedBy way S rs)) → Answered n c S a T ↔ DeletesBy way n rs S a T
+      go : (n : ℕ) → (n ≡ 0 → (k ≡ way f S (named S rs) .1) × (deleted S rs f ≡ deletedBy way f S rs)) → Answered n c S a T ↔ DeletesBy way f n rs S a T
       go zero h = rw (accepts a T, h refl .0, h refl .1) ((λ x. x), (λ x. x))
       go (suc n) h = ((λ x. x), (λ x. x))
 
 module _ (S : Store) where
-  accepts-one : (r : ℕ) (a : Answer) (T : Store) → Accepted (delete r) S a T ≡ Leaves a (gives (pagesOf (pages S) (tagOf (regions S) r) ∷ [])) T (deleted S (r ∷ []))
+  accepts-one : (r f : ℕ) (a : Answer) (T : Store) → Accepted (delete r f) S a T ≡ Leaves a (gives (pagesOf (pages S) (tagOf (regions S) r) ∷ [])) T (deleted S (r ∷ []) f)
   unfolding Accepted
-  accepts-one r a T = refl
+  accepts-one r f a T = refl
 
-  accepts-all : (rs : List ℕ) (a : Answer) (T : Store) → Accepted (deleteAll rs) S a T ≡ Leaves a (gives (sumOf (λ r. pagesOf (pages S) (tagOf (regions S) r)) rs ∷ [])) T (deleted S rs)
+  accepts-all : (rs : List ℕ) (f : ℕ) (a : Answer) (T : Store) → Accepted (deleteAll rs f) S a T ≡ Leaves a (gives (sumOf (λ r. pagesOf (pages S) (tagOf (regions S) r)) rs ∷ [])) T (deleted S rs f)
   unfolding Accepted
-  accepts-all rs a T = refl
+  accepts-all rs f a T = refl
 
 module _ (S : Store) (sized : Sized S) where
   long : length ((pages S) .owners) ≡ 256
   long = sized .inPages .owners
 
   -- delete
-  module _ (r : ℕ) where
+  module _ (r f : ℕ) where
     alone : (t : ℕ) → times t (tagOf (regions S) r ∷ []) ≤ 1
     alone = repeats-once (tagOf (regions S) r ∷ []) refl
 
-    one : pagesOf (pages S) (tagOf (regions S) r) ≡ scanThenGive S (named S (r ∷ [])) .1
-    one = sym (told-number S (r ∷ []) alone ∙ add-zero (pagesOf (pages S) (tagOf (regions S) r)))
+    one : pagesOf (pages S) (tagOf (regions S) r) ≡ scanThenGive f S (named S (r ∷ [])) .1
+    one = sym (told-number f S (r ∷ []) alone ∙ add-zero (pagesOf (pages S) (tagOf (regions S) r)))
 
     -- there is one member
     only : (u x : ℕ) → named S (r ∷ []) x ≡ true → named S (r ∷ []) u ≡ true → u ≡ x
@@ -203,50 +222,59 @@ module _ (S : Store) (sized : Sized S) where
         own : (t : ℕ) → named S (r ∷ []) t ≡ true → t ≡ tagOf (regions S) r
         own t e = eqb-true t (tagOf (regions S) r) (sym (among-alone t (tagOf (regions S) r)) ∙ e)
 
-    delete-told : DeleteIs scanThenGive S r
-    delete-told = same-outcomes S (delete r) (r ∷ []) _ (accepts-one S r) scanThenGive (λ e. (one, sym (told-deleted S (r ∷ []) alone long)))
+    delete-told : DeleteIs scanThenGive S r f
+    delete-told = same-outcomes f S (delete r f) (r ∷ []) _ (accepts-one S r f) scanThenGive (λ e. (one, sym (told-deleted f S (r ∷ []) alone long)))
 
-    delete-paged : DeleteIs pageByPage S r
-    delete-paged = same-outcomes S (delete r) (r ∷ []) _ (accepts-one S r) pageByPage (λ e. (one ∙ sym (same-number S (r ∷ [])), sym (told-deleted S (r ∷ []) alone long) ∙ all-alike S (r ∷ []) only))
+    delete-paged : DeleteIs pageByPage S r f
+    delete-paged = same-outcomes f S (delete r f) (r ∷ []) _ (accepts-one S r f) pageByPage (λ e. (one ∙ sym (same-number f S (r ∷ [])), sym (told-deleted f S (r ∷ []) alone long) ∙ all-alike f S (r ∷ []) only))
 
   -- delete_all: where its tests accept, those named live, and none is named twice
-  module _ (rs : List ℕ) where
-    module _ (z : refusal S (deleteAll rs) ≡ 0) where
+  module _ (rs : List ℕ) (f : ℕ) where
+    module _ (z : refusal S (deleteAll rs f) ≡ 0) where
       names-live : All (λ r. entryOf (regions S) r < 64) rs
       unfolding checks dead isLive
-      names-live = all-map (λ r h. ltb-true (entryOf (regions S) r) 64 (not-false (ltb (entryOf (regions S) r) 64) (h .0))) rs (names-passed (dead S) rs _ (passed S (deleteAll rs) z .1 .1) .0)
+      names-live = all-map (λ r h. ltb-true (entryOf (regions S) r) 64 (not-false (ltb (entryOf (regions S) r) 64) (h .0))) rs (names-passed (dead S) rs _ (passed S (deleteAll rs f) z .1 .1 .1) .0)
 
       once : (t : ℕ) → times t (map (tagOf (regions S)) rs) ≤ 1
       unfolding checks wrongNames
-      once = tags-once (regions S) rs names-live (neither (eqb (length rs) 0 || ltb 16 (length rs)) (repeats rs) (passed S (deleteAll rs) z .1 .0) .1)
+      once = tags-once (regions S) rs names-live (neither (eqb (length rs) 0 || ltb 16 (length rs)) (repeats rs) (passed S (deleteAll rs f) z .1 .1 .0) .1)
 
-      number : sumOf (λ r. pagesOf (pages S) (tagOf (regions S) r)) rs ≡ scanThenGive S (named S rs) .1
-      number = sym (told-number S rs once)
+      number : sumOf (λ r. pagesOf (pages S) (tagOf (regions S) r)) rs ≡ scanThenGive f S (named S rs) .1
+      number = sym (told-number f S rs once)
 
-      leaves : deleted S rs ≡ deletedBy scanThenGive S rs
-      leaves = sym (told-deleted S rs once long)
+      leaves : deleted S rs f ≡ deletedBy scanThenGive f S rs
+      leaves = sym (told-deleted f S rs once long)
 
-    delete-all-told : DeleteAllIs scanThenGive S rs
-    delete-all-told = same-outcomes S (deleteAll rs) rs _ (accepts-all S rs) scanThenGive (λ z. (number z, leaves z))
+    delete-all-told : DeleteAllIs scanThenGive S rs f
+    delete-all-told = same-outcomes f S (deleteAll rs f) rs _ (accepts-all S rs f) scanThenGive (λ z. (number z, leaves z))
 
-    delete-all-paged : (a b : Answer) (T U : Store) → Outcome (deleteAll rs) S a T → DeletesBy pageByPage (refusal S (deleteAll rs)) rs S b U → (a ≡ b) × OneButGone S T U
-    unfolding Outcome Accepted withCounts
-    delete-all-paged a b T U = go (refusal S (deleteAll rs)) refl
+    delete-all-paged : (a b : Answer) (T U : Store) → Outcome (deleteAll rs f) S a T → DeletesBy pageByPage f (refusal S (deleteAll rs f)) rs S b U → (a ≡ b) × OneButGone S T U
+    unfolding Outcome Accepted withShares
+    delete-all-paged a b T U = go (refusal S (deleteAll rs f)) refl
       where
-        go : (n : ℕ) → refusal S (deleteAll rs) ≡ n → Answered n (deleteAll rs) S a T → DeletesBy pageByPage n rs S b U → (a ≡ b) × OneButGone S T U
+        go : (n : ℕ) → refusal S (deleteAll rs f) ≡ n → Answered n (deleteAll rs f) S a T → DeletesBy pageByPage f n rs S b U → (a ≡ b) × OneButGone S T U
         go zero z x y = (
-          x .0 ∙ ap (λ n. gives (n ∷ [])) (number z ∙ sym (same-number S rs)) ∙ sym (y .0),
-          subst⁻¹ (λ T. OneButGone S T U) (x .1 ∙ leaves z) (subst⁻¹ (λ U. OneButGone S (deletedBy scanThenGive S rs) U) (y .1) (some-alike S rs (names-live z))),
+          x .0 ∙ ap (λ n. gives (n ∷ [])) (number z ∙ sym (same-number f S rs)) ∙ sym (y .0),
+          subst⁻¹ (λ T. OneButGone S T U) (x .1 ∙ leaves z) (subst⁻¹ (λ U. OneButGone S (deletedBy scanThenGive f S rs) U) (y .1) (some-alike f S rs (names-live z))),
         )
-        go (suc n) z x y = (x .0 ∙ sym (y .0), subst⁻¹ (λ T. OneButGone S T U) (x .1) (subst⁻¹ (λ U. OneButGone S S U) (y .1) (refl, λ i h. refl)))
+        go (suc n) z x y = (x .0 ∙ sym (y .0), subst⁻¹ (λ T. OneButGone S T U) (x .1) (subst⁻¹ (λ U. OneButGone S S U) (y .1) (refl, λ e i k h. refl)))
 
-  -- 19 of a joint delete asks what the scan leaves of a count
-  asks-scanned : Bits32 ((regions S) .counts) → (rs : List ℕ) → let ts = map (tagOf (regions S)) rs in ((t : ℕ) → times t ts ≤ 1) → (i : ℕ) → countBut S ts i ≡ countAt (regions (scanned S (named S rs))) i
-  unfolding countBut
-  asks-scanned bits rs once i = ap (λ g. countAt g i) (sym (left-are S (map (tagOf (regions S)) rs) once fits) ∙ sym (scan-leaves S (named S rs) fits))
-    where
-      fits : Counts ((regions S) .counts)
-      fits = (sized .inRegions .counts, λ i. below-at 4294967296 ((regions S) .counts) i (omega arith) bits)
+  -- 19 of a joint delete asks what the scan leaves of a count: as where no pointer moved afterwards
+  asks-scanned : (rs : List ℕ) → let ts = map (tagOf (regions S)) rs in ((t : ℕ) → times t ts ≤ 1)
+      → (f : ℕ) → f ≤ 3 → (i : ℕ) → i < 64 → countBut S ts i ≡ countAt (regions (scanned f S (named S rs))) i
+  unfolding countBut outgoing scanned
+  asks-scanned rs once f few i l =
+      let ts = map (tagOf (regions S)) rs in
+      let n = pageCount (pages S) in
+      let member = named S rs in
+      let left = leftBy S member f (still S member) n in
+      let out = outFrom (kinds S) (S .heap) (pages S) member n in
+      ap (rolled (countAt (regions S) i) 0) (sym (out-same (kinds S) (S .heap) (pages S) (suc i) ts once) ∙ ap (times (suc i)) (sym (append-nil out)))
+      ∙ sym (recount-at (regions S) f [] (out ++ []) (omega arith) i l)
+      ∙ ap (λ g. countAt g i) (sym (left-recount S member f (still S member) n [] []))
+      ∙ recount-at left f [] [] (omega arith) i l
+      ∙ total-still left i
+      ∙ ap (λ T. countAt (regions T) i) (sym (scanned-is S member f n))
 
 pub scans-then-gives : ScansThenGives
 unfolding ScansThenGives

@@ -10,7 +10,7 @@ use Rattle.lists.specs.Lists.{every, equal, upTo, times}
 use Rattle.model.specs.Model.{push, refusedBy}
 use Rattle.frames.specs.Frames.{frameCount, widthAt, slotAt}
 use Rattle.kinds.specs.Kinds.{kindCount, sizeOf, markAt, sizeIn}
-use Rattle.regions.specs.Regions.{nameAt, nameOf, entryOf, parentAt, countAt, entryIn, nameIn}
+use Rattle.regions.specs.Regions.{nameAt, nameOf, entryOf, parentAt, countAt, countIn, added, entryIn, nameIn}
 use Rattle.pages.specs.Pages.{pageCount, ownerAt, takenAt, isFree}
 use Rattle.objects.specs.Objects.{walk, headersTo, headersOn}
 use Rattle.outcomes.specs.History.{History, parentOf, begin, entries, listedRegions, listedKinds, listedFrames, listedHeld, listedFree, metOn, slotsOf, pointersOf, homeOf, slotsLeadingTo, wordsLeadingTo, outside, storedCount, subregions, holders}
@@ -54,7 +54,7 @@ cases =
     ∷ []
 
 pub computed : every (λ p. eqb (p .0) (p .1)) cases ≡ true
-unfolding steps opening born popped ended told note frameCount widthAt slotAt kindCount sizeOf markAt nameAt nameOf entryOf parentAt countAt pageCount ownerAt takenAt isFree walk headersTo headersOn begin entries listedRegions listedKinds listedFrames listedHeld listedFree metOn slotsOf pointersOf homeOf slotsLeadingTo wordsLeadingTo outside storedCount subregions sizeIn nameIn entryIn
+unfolding steps opening born popped ended told note frameCount widthAt slotAt kindCount sizeOf markAt nameAt nameOf entryOf parentAt countAt countIn added pageCount ownerAt takenAt isFree walk headersTo headersOn begin entries listedRegions listedKinds listedFrames listedHeld listedFree metOn slotsOf pointersOf homeOf slotsLeadingTo wordsLeadingTo outside storedCount subregions sizeIn nameIn entryIn
 computed = refl
 
 -- ---- regions that end together

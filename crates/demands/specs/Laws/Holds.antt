@@ -8,7 +8,7 @@ use Prim.Native.Nat.{ℕ, _≤_}
 use native.Mathlib.Omega.{arith}
 use lib.Dec.{eqb}
 use lib.ListN.{getD}
-use borrow.Author.Tests.{eqb-true, eq-eqb, ne-eqb, not-false, not-true}
+use borrow.Author.Tests.{eqb-true, eq-eqb, ne-eqb, le-ltb, not-false, not-true}
 use Rattle.lists.specs.Lists.{every, All}
 use Rattle.lists.specs.Laws.Tests.{both}
 use Rattle.lists.specs.Laws.All.{all-map}
@@ -44,13 +44,13 @@ module _ {L : Model} {sp : List ℕ} {ids : ℕ → List ℕ} {S : Store} {h : H
       let out = report.outside-is S v rep r l (small r) in
       (ap (λ a. a .refusal) (q .0), ap (λ a. getD (a .values) 0 0) (q .0), ap (λ a. getD (a .values) 1 0) (q .0) ∙ out ∙ sym (outside-told r))
 
-  deleted : (r : ℕ) → livesIn L r ≡ true → r ≢ 1 → (a : Answer) (T : Store) → Outcome (delete r) S a T → (a .refusal ≡ 0) ↔ ((subregions h r ≡ 0) × (history.outside h S r ≡ 0))
+  deleted : (r f : ℕ) → livesIn L r ≡ true → r ≢ 1 → f ≤ 3 → (a : Answer) (T : Store) → Outcome (delete r f) S a T → (a .refusal ≡ 0) ↔ ((subregions h r ≡ 0) × (history.outside h S r ≡ 0))
   unfolding Refusals refusal checks
-  deleted r l d a T o =
-      let e = refusals (delete r) S a T o .0 ∙ refusals-agree v rep small (delete r) in
+  deleted r f l d k a T o =
+      let e = refusals (delete r f) S a T o .0 ∙ refusals-agree v rep small (delete r f) in
       rw (e, subregions-are t r, outside-told r) (
-        (λ z. let q = passed L (delete r) z in (eqb-true _ 0 (not-false _ (q .1 .1 .0)), eqb-true _ 0 (not-false _ (q .1 .1 .1 .0)))),
-        (λ z. rw (l, ne-eqb r 1 d, z .0, z .1)),
+        (λ z. let q = passed L (delete r f) z in (eqb-true _ 0 (not-false _ (q .1 .1 .1 .0)), eqb-true _ 0 (not-false _ (q .1 .1 .1 .1 .0)))),
+        (λ z. rw (le-ltb 3 f k, l, ne-eqb r 1 d, z .0, z .1)),
       )
 
   -- the names pass in the history where they do in the model
@@ -65,20 +65,20 @@ module _ {L : Model} {sp : List ℕ} {ids : ℕ → List ℕ} {S : Store} {h : H
       live : (r : ℕ) → (dead L r ≡ false) × (eqb r 1 ≡ false) → (isLive h r && not (eqb r 1)) ≡ true
       live r e = rw (live-is t r, not-false (livesIn L r) (e .0), e .1)
 
-  together : (l : List ℕ) (a : Answer) (T : Store) → Outcome (deleteAll l) S a T
+  together : (l : List ℕ) (f : ℕ) → f ≤ 3 → (a : Answer) (T : Store) → Outcome (deleteAll l f) S a T
       → (a .refusal ≡ 0) ↔ ((namesPass h l ≡ true) × (history.closed h l ≡ true) × All (λ r. history.outsideBut h S l r ≡ 0) l)
   unfolding Refusals refusal checks
-  together l a T o =
-      let e = refusals (deleteAll l) S a T o .0 ∙ refusals-agree v rep small (deleteAll l) in
+  together l f k a T o =
+      let e = refusals (deleteAll l f) S a T o .0 ∙ refusals-agree v rep small (deleteAll l f) in
       let none : (r : ℕ) → history.outsideBut h S l r ≡ outsideBut L l r = λ r. outside-but-is S t v (rep .onFrames) (rep .onObjects) r l in (
         (λ z.
-            let c = passed L (deleteAll l) (sym e ∙ z) in
-            let q = names-passed (dead L) l _ (c .1) in
-            (pass l (c .0) (q .0), closed-is t l ∙ not-false _ (q .1 .0), all-map (λ r f. none r ∙ eqb-true _ 0 (not-false _ f)) l (any-false _ l (q .1 .1 .0)))),
+            let c = passed L (deleteAll l f) (sym e ∙ z) in
+            let q = names-passed (dead L) l _ (c .1 .1) in
+            (pass l (c .1 .0) (q .0), closed-is t l ∙ not-false _ (q .1 .0), all-map (λ r z. none r ∙ eqb-true _ 0 (not-false _ z)) l (any-false _ l (q .1 .1 .0)))),
         (λ z.
             let p = past l (z .0) in
-            e ∙ rw (p .0) (names-go (dead L) l _ (p .1)
-            ∙ rw (sym (closed-is t l) ∙ z .1, false-any (λ r. not (eqb (outsideBut L l r) 0)) l (all-map (λ r f. ap not (eq-eqb _ 0 (sym (none r) ∙ f))) l (z .2))))),
+            e ∙ rw (le-ltb 3 f k, p .0) (names-go (dead L) l _ (p .1)
+            ∙ rw (sym (closed-is t l) ∙ z .1, false-any (λ r. not (eqb (outsideBut L l r) 0)) l (all-map (λ r z. ap not (eq-eqb _ 0 (sym (none r) ∙ z))) l (z .2))))),
       )
 
   pub holds : Holds h S
@@ -89,6 +89,6 @@ module _ {L : Model} {sp : List ℕ} {ids : ℕ → List ℕ} {S : Store} {h : H
     words = words-lead S t v (rep .onFrames) (rep .onObjects);
     pages = pages-held (rep .onRegions) (rep .onPages) t u;
     reports = λ r l. reported r (sym (live-is t r) ∙ l);
-    deletes = λ r l. deleted r (sym (live-is t r) ∙ l);
+    deletes = λ r f l. deleted r f (sym (live-is t r) ∙ l);
     together = together;
   }

@@ -17,24 +17,21 @@ use Rattle.lists.specs.Laws.Finds.{every-zero}
 use Rattle.lists.specs.Laws.UpTo.{sum-change}
 use Rattle.lists.specs.Laws.Kept.{among-alone, sum-one}
 use Rattle.model.specs.Model.{Model, delete, deleteAll, gives, refusedBy}
-use Rattle.model.specs.Calls.{wrongNames, nameTests}
-use Rattle.model.specs.Laws.Paged.{stored-bound}
+use Rattle.model.specs.Calls.{noFiller, wrongNames, nameTests}
 use Rattle.regions.specs.declared.Regions.{Regions}
 use Rattle.regions.specs.Regions.{nameAt, entryOf, tagOf, isLive, parentAt, levelAt, subregionsIn, subregionsOf, followsIn, closedIn, countAt}
 use Rattle.regions.specs.Laws.Entries.{entry-used}
-use Rattle.regions.specs.Laws.Recount.{recount-exact}
+use Rattle.regions.specs.Laws.Counts.{rolled-exact}
+use Rattle.regions.specs.Laws.Recount.{total-below}
 use Rattle.pages.specs.Pages.{pagesOf}
 use Rattle.objects.specs.Objects.{freeWordsOf, outOf}
 use Rattle.objects.specs.Laws.Leaving.{out-own}
 use Rattle.outcomes.specs.Store.{Store, kinds, regions, pages, ledInto, ledAmong}
-use Rattle.outcomes.specs.Shape.{Bits32}
 use Rattle.outcomes.specs.Outcome.{Outcome, Accepted, Answered, badLength, dead, outgoing, countBut, checks, refusal}
 use Rattle.outcomes.specs.Laws.Steps.{by-refusal}
-use Rattle.outcomes.specs.Laws.Bounded.{below-at}
 use Rattle.outcomes.specs.Laws.Tree.{Place, entry-above}
 use Rattle.promises.specs.Promises.{Refusals}
 use Rattle.promises.specs.Laws.Refused.{refusals}
-use Rattle.refinement.specs.Laws.Tags.{live-is}
 use Rattle.refinement.specs.Laws.Together.{led-each}
 use Rattle.audited.specs.Laws.Audited.{audited}
 use Rattle.audited.specs.Laws.Good.{Good}
@@ -97,16 +94,16 @@ module _ (S : Store) where
       rw (append-nil (outOf ((pages S) .owners) t vs)) (out-own ((pages S) .owners) t vs)
 
   -- so its count stays
-  count-one : (i : ℕ) → i < 64 → countAt (regions S) i < 4294967296 → countBut S (suc i ∷ []) i ≡ countAt (regions S) i
+  count-one : (i : ℕ) → countBut S (suc i ∷ []) i ≡ countAt (regions S) i
   unfolding countBut
-  count-one i l h = recount-exact (regions S) [] (outgoing S (suc i ∷ [])) i (countAt (regions S) i) l (omega (arith, none-out (suc i))) h
+  count-one i = rolled-exact (countAt (regions S) i) 0 (times (suc i) (outgoing S (suc i ∷ []))) (countAt (regions S) i) (omega (arith, none-out (suc i))) (total-below (regions S) i)
 
   look-one : (t : ℕ) → ledAmong S (t ∷ []) ≡ ledInto S t
   look-one t = led-each S (t ∷ []) ∙ or-false (ledInto S t)
 
 -- ---- the refusals of the two calls
 
-module _ (S : Store) (r : ℕ) where
+module _ (S : Store) (r f : ℕ) where
   abbrev g : Regions
   g = regions S
 
@@ -132,106 +129,95 @@ module _ (S : Store) (r : ℕ) where
   unfolding tagOf subregionsOf parentAt nameAt
   closed-of-one d = rw (add-one entry) (closed-one (g .names) (g .parents) entry (in-entries d) (used d))
 
-  -- the stored count of a live region is one of 32 bits
-  abbrev Small : Type 0
-  Small = dead S r ≡ false → countAt g entry < 4294967296
-
-  counted : Small → dead S r ≡ false → countBut S (tag ∷ []) entry ≡ countAt g entry
+  counted : countBut S (tag ∷ []) entry ≡ countAt g entry
   unfolding tagOf
-  counted small d = rw (add-one entry) (count-one S entry (in-entries d) (small d))
+  counted = rw (add-one entry) (count-one S entry)
 
   -- the test of delete for 19; and all its tests, with b in place of the one for 18
   abbrev last : Bool
   last = not (eqb (countAt g entry) 0) || ledInto S tag
 
   tested : Bool → ℕ
-  tested b = pick (badLength S) 21 (pick (dead S r) 2 (pick (eqb r 1) 3 (pick b 18 (pick last 19 0))))
+  tested b = pick (badLength S) 21 (pick (noFiller f) 23 (pick (dead S r) 2 (pick (eqb r 1) 3 (pick b 18 (pick last 19 0)))))
 
-  delete-tested : refusal S (delete r) ≡ tested (not (eqb (subregionsOf g tag) 0))
+  delete-tested : refusal S (delete r f) ≡ tested (not (eqb (subregionsOf g tag) 0))
   unfolding refusal checks tested
   delete-tested = refl
 
-  joint-tested : Small → refusal S (deleteAll (r ∷ [])) ≡ tested (not (eqb (subregionsOf g tag) 0 || own))
+  joint-tested : refusal S (deleteAll (r ∷ []) f) ≡ tested (not (eqb (subregionsOf g tag) 0 || own))
   unfolding refusal checks wrongNames nameTests tested
-  joint-tested small = by-test (dead S r) (λ d. rw d) (λ d. rw (d, closed-of-one d, counted small d, or-false (not (eqb (countAt g entry) 0)), look-one S tag))
+  joint-tested = by-test (dead S r) (λ d. rw d) (λ d. rw (d, closed-of-one d, counted, or-false (not (eqb (countAt g entry) 0)), look-one S tag))
 
   -- where delete answers 18 it got as far as the subregions
-  got-there : refusal S (delete r) ≡ 18 → (badLength S ≡ false) × (dead S r ≡ false) × (eqb r 1 ≡ false)
+  got-there : refusal S (delete r f) ≡ 18 → (badLength S ≡ false) × (noFiller f ≡ false) × (dead S r ≡ false) × (eqb r 1 ≡ false)
   unfolding tested
-  got-there e = go (badLength S) (dead S r) (eqb r 1) (sym e ∙ delete-tested)
+  got-there e = go (badLength S) (noFiller f) (dead S r) (eqb r 1) (sym e ∙ delete-tested)
     where
-      go : (a b c : Bool) → _≡_ {A = ℕ} 18 (pick a 21 (pick b 2 (pick c 3 (pick (not (eqb (subregionsOf g tag) 0)) 18 (pick last 19 0))))) → (a ≡ false) × (b ≡ false) × (c ≡ false)
-      go true b c e = absurd (omega (arith, e))
-      go false true c e = absurd (omega (arith, e))
-      go false false true e = absurd (omega (arith, e))
-      go false false false e = (refl, refl, refl)
+      go : (a x b c : Bool) → _≡_ {A = ℕ} 18 (pick a 21 (pick x 23 (pick b 2 (pick c 3 (pick (not (eqb (subregionsOf g tag) 0)) 18 (pick last 19 0)))))) → (a ≡ false) × (x ≡ false) × (b ≡ false) × (c ≡ false)
+      go true x b c e = absurd (omega (arith, e))
+      go false true b c e = absurd (omega (arith, e))
+      go false false true c e = absurd (omega (arith, e))
+      go false false false true e = absurd (omega (arith, e))
+      go false false false false e = (refl, refl, refl, refl)
 
-  refused-alike : Small → (OnlyItself S r → ⊥) → refusal S (deleteAll (r ∷ [])) ≡ refusal S (delete r)
+  refused-alike : (OnlyItself S r f → ⊥) → refusal S (deleteAll (r ∷ []) f) ≡ refusal S (delete r f)
   unfolding tested
-  refused-alike small n = joint-tested small ∙ alike ∙ sym delete-tested
+  refused-alike n = joint-tested ∙ alike ∙ sym delete-tested
     where
-      not-own : badLength S ≡ false → dead S r ≡ false → eqb r 1 ≡ false → own ≡ false
-      not-own b d o = by-test own
+      not-own : badLength S ≡ false → noFiller f ≡ false → dead S r ≡ false → eqb r 1 ≡ false → own ≡ false
+      not-own b x d o = by-test own
           (λ w.
           let q = both (eqb (parentAt g entry) tag) (eqb (subregionsOf g tag) 1) w in
           let k = eqb-true (subregionsOf g tag) 1 (q .1) in
-          absurd (n (delete-tested ∙ rw (b, d, o, k), eqb-true (parentAt g entry) tag (q .0), k)))
+          absurd (n (delete-tested ∙ rw (b, x, d, o, k), eqb-true (parentAt g entry) tag (q .0), k)))
           (λ w. w)
 
       alike : tested (not (eqb (subregionsOf g tag) 0 || own)) ≡ tested (not (eqb (subregionsOf g tag) 0))
-      alike = by-test (badLength S) (λ b. rw b) (λ b. by-test (dead S r) (λ d. rw (b, d)) (λ d. by-test (eqb r 1) (λ o. rw (b, d, o)) (λ o. rw (not-own b d o, or-false (eqb (subregionsOf g tag) 0)))))
+      alike = by-test (badLength S) (λ b. rw b) (λ b. by-test (noFiller f) (λ x. rw x) (λ x. by-test (dead S r) (λ d. rw d) (λ d. by-test (eqb r 1) (λ o. rw o) (λ o. rw (not-own b x d o, or-false (eqb (subregionsOf g tag) 0))))))
 
   -- ---- and so the outcomes
 
-  same-outcomes : refusal S (deleteAll (r ∷ [])) ≡ refusal S (delete r) → SameAsDelete S r
+  same-outcomes : refusal S (deleteAll (r ∷ []) f) ≡ refusal S (delete r f) → SameAsDelete S r f
   unfolding Outcome Accepted
-  same-outcomes e a T = subst⁻¹ (λ n. Answered n (deleteAll (r ∷ [])) S a T ↔ Answered (refusal S (delete r)) (delete r) S a T) e (go (refusal S (delete r)))
+  same-outcomes e a T = subst⁻¹ (λ n. Answered n (deleteAll (r ∷ []) f) S a T ↔ Answered (refusal S (delete r f)) (delete r f) S a T) e (go (refusal S (delete r f)))
     where
       freed : gives (sumOf (λ r. pagesOf (pages S) (tagOf g r)) (r ∷ []) ∷ []) ≡ gives (pagesOf (pages S) tag ∷ [])
       freed = ap (λ n. gives (n ∷ [])) (add-zero (pagesOf (pages S) tag))
 
-      go : (n : ℕ) → Answered n (deleteAll (r ∷ [])) S a T ↔ Answered n (delete r) S a T
+      go : (n : ℕ) → Answered n (deleteAll (r ∷ []) f) S a T ↔ Answered n (delete r f) S a T
       go zero = ((λ o. (o .0 ∙ freed, o .1)), (λ o. (o .0 ∙ sym freed, o .1)))
       go (suc n) = ((λ o. o), (λ o. o))
 
   -- delete refuses by 18 where the region's one subregion is itself, and a list of one does not
-  apart : Small → SameAsDelete S r → OnlyItself S r → ⊥
+  apart : SameAsDelete S r f → OnlyItself S r f → ⊥
   unfolding Refusals tested
-  apart small s o =
+  apart s o =
       let p = got-there (o .0) in
-      let j : refusal S (deleteAll (r ∷ [])) ≡ pick last 19 0 = joint-tested small ∙ rw (p .0, p .1, p .2, o .1, eq-eqb tag tag refl, o .2) in
-      not-18 last (refusals (deleteAll (r ∷ [])) S (refusedBy 18) S (s (refusedBy 18) S .1 (by-refusal (delete r) S (refusedBy 18) S 18 (o .0) (λ z. omega arith) refl refl)) .0 ∙ j)
+      let j : refusal S (deleteAll (r ∷ []) f) ≡ pick last 19 0 = joint-tested ∙ rw (p .0, p .1, p .2, p .3, o .1, eq-eqb tag tag refl, o .2) in
+      not-18 last (refusals (deleteAll (r ∷ []) f) S (refusedBy 18) S (s (refusedBy 18) S .1 (by-refusal (delete r f) S (refusedBy 18) S 18 (o .0) (λ z. omega arith) refl refl)) .0 ∙ j)
     where
       not-18 : (b : Bool) → _≡_ {A = ℕ} 18 (pick b 19 0) → ⊥
       not-18 true e = omega arith
       not-18 false e = omega arith
 
-on-every-memory : (S : Store) → Bits32 ((regions S) .counts) → (r : ℕ) → SameAsDelete S r ↔ (OnlyItself S r → ⊥)
-unfolding countAt
-on-every-memory S h r = (apart S r small, λ n. same-outcomes S r (refused-alike S r small n))
-  where
-    small : Small S r
-    small d = below-at 4294967296 ((regions S) .counts) (entryOf (regions S) r) (omega arith) h
+on-every-memory : (S : Store) (r f : ℕ) → SameAsDelete S r f ↔ (OnlyItself S r f → ⊥)
+on-every-memory S r f = (apart S r f, λ n. same-outcomes S r f (refused-alike S r f n))
 
 -- ---- a store that stands for a valid model
 
-module _ {N : ℕ} {L : Model} {S : Store} (k : Good N L S) (r : ℕ) where
-  small-told : Small S r
-  unfolding dead
-  small-told d = omega (arith, k .represents .counts r (sym (live-is (k .represents .onRegions) r) ∙ not-false (isLive (regions S) r) d), stored-bound L (k .valid) (k .paged) (k .few) r)
-
+module _ {N : ℕ} {L : Model} {S : Store} (k : Good N L S) (r f : ℕ) where
   -- no region is its own region above: its level would be one more than itself
-  not-above : OnlyItself S r → ⊥
+  not-above : OnlyItself S r f → ⊥
   unfolding tagOf
-  not-above o = go (entry-above S (k .sized .inRegions .names) (audited S (k .valid) (k .represents) (k .sized) .parents) (entry S r) (used S r (got-there S r (o .0) .1)))
+  not-above o = go (entry-above S (k .sized .inRegions .names) (audited S (k .valid) (k .represents) (k .sized) .parents) (entry S r f) (used S r f (got-there S r f (o .0) .2)))
     where
-      go : Place S (entry S r) → ⊥
+      go : Place S (entry S r f) → ⊥
       go (inl q) = omega (arith, q .0, o .1)
-      go (inr (p, b)) = let q : p ≡ entry S r = omega (arith, b .parent, o .1) in omega (arith, b .level, ap (levelAt (regions S)) q)
+      go (inr (p, b)) = let q : p ≡ entry S r f = omega (arith, b .parent, o .1) in omega (arith, b .level, ap (levelAt (regions S)) q)
 
-  same-told : SameAsDelete S r
-  same-told = same-outcomes S r (refused-alike S r small-told not-above)
+  same-told : SameAsDelete S r f
+  same-told = same-outcomes S r f (refused-alike S r f not-above)
 
 pub joint-of-one : JointOfOne
 unfolding JointOfOne
-joint-of-one = (on-every-memory, λ S h s es T u r. same-told (run-told (start-told S h s .2) u .1 .good) r)
+joint-of-one = (on-every-memory, λ S h s es T u r f. same-told (run-told (start-told S h s .2) u .1 .good) r f)

@@ -9,7 +9,7 @@ use native.Mathlib.Numerals.{add-one}
 use native.Mathlib.Omega.{arith}
 use lib.Dec.{eqb, leb}
 use lib.ListN.{length, getD, length-map, List·getD-map, List·getD-eq-default}
-use borrow.Author.Tests.{eqb-true, eqb-false, eq-eqb, ne-eqb, leb-true, leb-false, lt-leb}
+use borrow.Author.Tests.{eqb-true, eqb-false, eq-eqb, ne-eqb, leb-true, leb-false, lt-leb, le-ltb}
 use Rattle.lists.specs.Lists.{pick, anyOf, findOr, All, among}
 use Rattle.lists.specs.Laws.Tests.{by-test, both, or-right, or-other}
 use Rattle.lists.specs.Laws.All.{all-map, all-both}
@@ -252,22 +252,22 @@ module _ {L : Model} {sp : List ℕ} {ids : ℕ → List ℕ} {S : Store} {h : H
         (λ e. lt-leb (length ((inSlot L s) .words)) w (omega (arith, leb-false (length (slotMarks L s)) w e, sized-known v (modelSlot L s) (top-known v s))))
 
     -- so only the mark is left to test
-    tested : refusal L (setPointer s w p) ≡ pick (not (allowed (parentIn L) (homeIn L) ((inSlot L s) .home) 3 (modelSlot L p))) 17 0
+    tested : (f : ℕ) → f ≤ 3 → refusal L (setPointer s w p f) ≡ pick (not (allowed (parentIn L) (homeIn L) ((inSlot L s) .home) 3 (modelSlot L p))) 17 0
     unfolding refusal checks
-    tested = rw (some-frame, has s in₁, has p in₂, led, has-word, marked)
+    tested f few = rw (le-ltb 3 f few, some-frame, has s in₁, has p in₂, led, has-word, marked)
 
-    sets-up : ((r : ℕ) → outside L r ≤ 16640) → (a : Answer) (T : Store) → Outcome (setPointer s w p) S a T
+    sets-up : ((r : ℕ) → outside L r ≤ 16640) → (f : ℕ) → f ≤ 3 → (a : Answer) (T : Store) → Outcome (setPointer s w p f) S a T
         → let Allowed = (slot S p ≡ 0) ⊎ Reached h (homeOf h (slot S s)) (homeOf h (slot S p)) in ((a .refusal ≡ 0) × Allowed) ⊎ ((a .refusal ≡ 17) × (Allowed → ⊥))
     unfolding Refusals
-    sets-up small a T o =
+    sets-up small f few a T o =
         let q = modelSlot L s in
         let x = modelSlot L p in
-        let e = refusals (setPointer s w p) S a T o .0 ∙ refusals-agree v rep small (setPointer s w p) ∙ tested in
-        let f = allows-up q x lives (top-known v p) in
+        let e = refusals (setPointer s w p f) S a T o .0 ∙ refusals-agree v rep small (setPointer s w p f) ∙ tested f few in
+        let up = allows-up q x lives (top-known v p) in
         rw (slot-is rep s (has s in₁), slot-is rep p (has p in₂), home-is t v (rep .onObjects) q (top-known v s), home-is t v (rep .onObjects) x (top-known v p))
         (by-test (allowed (parentIn L) (homeIn L) ((inSlot L s) .home) 3 x)
-        (λ y. inl (rw y at e, f .0 y))
-        (λ y. inr (rw y at e, (λ z. true≢false (sym (f .1 z) ∙ y)))))
+        (λ y. inl (rw y at e, up .0 y))
+        (λ y. inr (rw y at e, (λ z. true≢false (sym (up .1 z) ∙ y)))))
 
 pub any-height : AnyHeight
 unfolding AnyHeight
@@ -278,7 +278,7 @@ any-height S h s es T r =
       ends = over (history h es) (tree-told (g .valid) (g .represents) (k .tells));
       reaches = reached (history h es) (tree-told (g .valid) (g .represents) (k .tells));
       words = climbed (g .valid) (g .represents) (k .tells);
-      sets = λ s w p a T o i j m. sets-up (g .valid) (g .represents) (k .tells) s w p i j m (outside-bound _ (g .valid) (g .paged) (g .few)) a T o;
+      sets = λ s w p f few a T o i j m. sets-up (g .valid) (g .represents) (k .tells) s w p i j m (outside-bound _ (g .valid) (g .paged) (g .few)) f few a T o;
     }
 
 pub audits-height : AuditsHeight

@@ -60,17 +60,17 @@ pub record Told (N : ℕ) (L : Model) (S : Store) (h : History) : Type 0 where
 
 -- ---- names do not change with counts
 
-popped-names : (S : Store) → (regions (popFrame S)) .names ≡ (regions S) .names
+popped-names : (S : Store) (f : ℕ) → (regions (popFrame S f)) .names ≡ (regions S) .names
 unfolding popFrame recounted
-popped-names S = recount-beside _ _ _ .names
+popped-names S f = recount-beside _ _ _ _ .names
 
-pointed-names : (S : Store) (v w x : ℕ) → (regions (pointed S v w x)) .names ≡ (regions S) .names
+pointed-names : (S : Store) (v w x f : ℕ) → (regions (pointed S v w x f)) .names ≡ (regions S) .names
 unfolding pointed writeWord recounted
-pointed-names S v w x = recount-beside _ _ _ .names
+pointed-names S v w x f = recount-beside _ _ _ _ .names
 
-deleted-names : (S : Store) (rs : List ℕ) → (regions (deleted S rs)) .names ≡ clearedAt ((regions S) .names) (map (entryOf (regions S)) rs)
+deleted-names : (S : Store) (rs : List ℕ) (f : ℕ) → (regions (deleted S rs f)) .names ≡ clearedAt ((regions S) .names) (map (entryOf (regions S)) rs)
 unfolding deleted recounted withoutRegions
-deleted-names S rs = ap (λ l. clearedAt l (map (entryOf (regions S)) rs)) (recount-beside _ _ _ .names)
+deleted-names S rs f = ap (λ l. clearedAt l (map (entryOf (regions S)) rs)) (recount-beside _ _ _ _ .names)
 
 -- ---- allocate: what the slot then shows
 
@@ -156,15 +156,15 @@ module _ {N : ℕ} {L : Model} {S : Store} {h : History} (k : Told N L S h) (a :
       let n = sub-step L _ _ S v sh rep r e a T q in
       stays (subregion r) n (rw (n .0) (region-told t v r _)) (rw (q .1) (born-pages (leb-false 64 (length (L .regions)) (passed L (subregion r) e .1 .1 .0)) _ _ r))
   accepted-told (push n) e q = stays (push n) (push-step L _ _ S v rep a T sh n e q) (push-told t n) (rw (q .1) (same-pages refl refl refl u))
-  accepted-told dropFrame e q = stays dropFrame (drop-step L _ _ S v rep a T small q) (pop-told t v) (rw (q .1, popped-names S) (same-pages refl refl refl u))
-  accepted-told (handBack s b) e q = stays (handBack s b) (hand-step L _ _ S v rep a T sh small s b e q) (fill-told (pop-told t v) b _) (rw (q .1, popped-names S) (same-pages refl refl refl u))
+  accepted-told (dropFrame f) e q = stays (dropFrame f) (drop-step L _ _ S v rep a T small f e q) (pop-told t v) (rw (q .1, popped-names S f) (same-pages refl refl refl u))
+  accepted-told (handBack s b f) e q = stays (handBack s b f) (hand-step L _ _ S v rep a T sh small s b f e q) (fill-told (pop-told t v) b _) (rw (q .1, popped-names S f) (same-pages refl refl refl u))
   accepted-told (allocate s r k) e q = rw (q .1) (allocate-told s r k e (q .0))
   accepted-told (first s r) e q = stays (first s r) (first-step L _ _ S v rep a T sh s r e q) (fill-told t s _) (rw (q .1) u)
   accepted-told (copy s d) e q = stays (copy s d) (copy-step L _ _ S v rep a T sh s d e q) (fill-told t d _) (rw (q .1) u)
   accepted-told (fetch b s) e q = stays (fetch b s) (fetch-step L _ _ S v rep a T sh b s e q) (fill-told t s _) (rw (q .1) u)
   accepted-told (clear s) e q = stays (clear s) (clear-step L _ _ S v rep a T sh s e q) (fill-told t s _) (rw (q .1) u)
   accepted-told (load s w d) e q = stays (load s w d) (load-step L _ _ S v rep a T sh s w d e q) (fill-told t d _) (rw (q .1) u)
-  accepted-told (setPointer s w x) e q = stays (setPointer s w x) (pointer-step L _ _ S v rep a T small s w x e q) (write-told t s w _) (rw (q .1, pointed-names S _ _ _) u)
+  accepted-told (setPointer s w x f) e q = stays (setPointer s w x f) (pointer-step L _ _ S v rep a T small s w x f e q) (write-told t s w _) (rw (q .1, pointed-names S _ _ _ f) u)
   accepted-told (put s w x) e q = stays (put s w x) (put-step L _ _ S v rep a T s w x e q) (write-told t s w x) (rw (q .1) u)
   accepted-told (get s w) e q = stays (get s w) (get-step L _ _ S v rep a T s w e q) t (rw (q .1) u)
   accepted-told (view s) e q = stays (view s) (view-step L _ _ S v rep a T s e q) t (rw (q .1) u)
@@ -173,14 +173,14 @@ module _ {N : ℕ} {L : Model} {S : Store} {h : History} (k : Told N L S h) (a :
   accepted-told (report r) e q = stays (report r) (report-step L _ _ S v rep a T r (outside-bound L v (g .paged) (g .few)) e q) t (rw (q .1) u)
   accepted-told totals e q = stays totals (totals-step L _ _ S v rep a T q) t (rw (q .1) u)
   accepted-told audit e q = stays audit (q .0 ∙ ap (λ b. gives (bit b ∷ [])) (is-sound S (audited S v rep sh)), rw (q .1) rep) t (rw (q .1) u)
-  accepted-told (delete r) e q =
-      let m = removable-one L r e in
-      stays (delete r) (delete-step L _ _ S v rep a T r (outside-bound L v (g .paged) (g .few)) e q) (remove-told t (r ∷ []))
-      (rw (q .1, deleted-names S (r ∷ [])) (ended-pages (rep .onRegions) (rep .onPages) u (r ∷ []) (m .live) (m .distinct)))
-  accepted-told (deleteAll rs) e q =
-      let m = removable-all L rs e in
-      stays (deleteAll rs) (delete-all-step L _ _ S v rep a T rs (outside-bound L v (g .paged) (g .few)) e q) (remove-told t rs)
-      (rw (q .1, deleted-names S rs) (ended-pages (rep .onRegions) (rep .onPages) u rs (m .live) (m .distinct)))
+  accepted-told (delete r f) e q =
+      let m = removable-one L r f e in
+      stays (delete r f) (delete-step L _ _ S v rep a T r f (outside-bound L v (g .paged) (g .few)) e q) (remove-told t (r ∷ []))
+      (rw (q .1, deleted-names S (r ∷ []) f) (ended-pages (rep .onRegions) (rep .onPages) u (r ∷ []) (m .live) (m .distinct)))
+  accepted-told (deleteAll rs f) e q =
+      let m = removable-all L rs f e in
+      stays (deleteAll rs f) (delete-all-step L _ _ S v rep a T rs f (outside-bound L v (g .paged) (g .few)) e q) (remove-told t rs)
+      (rw (q .1, deleted-names S rs f) (ended-pages (rep .onRegions) (rep .onPages) u rs (m .live) (m .distinct)))
   accepted-told (ask x) e q = stays (ask x) (ask-step L _ _ S v rep a T x e q) t (rw (q .1) u)
 
 -- ---- any call

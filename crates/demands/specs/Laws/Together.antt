@@ -105,7 +105,7 @@ module _ {L : Model} {sp : List ℕ} {h : History} (v : Valid L) (t : Tells L sp
 
 pub all-together : AllTogether
 unfolding AllTogether Demand3
-all-together S h s es T r f n l a b only x U o =
+all-together S h s es T r none n l a b only f few x U o =
     let k = run-told (start-told S h s .2) r .1 in
     let v = k .good .valid in
-    demand3 S h s es T r .together l x U o .1 (passes v (k .tells) T l only a b, all-closed v (k .tells) T l only, all-away v (k .tells) T l only f n)
+    demand3 S h s es T r .together l f few x U o .1 (passes v (k .tells) T l only a b, all-closed v (k .tells) T l only, all-away v (k .tells) T l only none n)

@@ -3,12 +3,12 @@
 use mathlib.Core.Path.{_≡_, refl}
 use mathlib.Core.Bool.{Bool, true, _||_}
 use mathlib.Core.List.{List, [], _∷_, _++_}
-use Prim.Native.Nat.{ℕ}
+use Prim.Native.Nat.{ℕ, _+_}
 use lib.Dec.{eqb}
 use lib.ListN.{replicate}
-use Rattle.lists.specs.Lists.{bit, every, equal, zeroed}
+use Rattle.lists.specs.Lists.{bit, every, joined, equal, zeroed}
 use Rattle.lists.specs.Ticks.{tickAt}
-use Rattle.regions.specs.Regions.{closedIn, followsIn}
+use Rattle.regions.specs.Regions.{added, closedIn, followsIn, countIn}
 use Rattle.pages.specs.Pages.{ownerIn}
 use Rattle.outcomes.specs.Store.{targetsIn, ledAmongIn}
 use Rattle.joint_parts.specs.Joint.{stillCounted, namesLeft}
@@ -24,12 +24,16 @@ parents = 0 ∷ 0 ∷ 0 ∷ 2 ∷ []
 abbrev led : (ℕ → Bool) → Bool
 led = ledAmongIn 3 1 (1 ∷ 1 ∷ 2 ∷ []) ((65 ∷ replicate 7 0) ++ (1 ∷ replicate 7 0) ++ (0 ∷ 193 ∷ replicate 6 0)) (1 ∷ 2 ∷ 3 ∷ 4 ∷ [])
 
+-- shares that come to these counts; none of them is the count, or 0
+abbrev shared : List ℕ → List ℕ
+shared cs = joined (λ c. 3 ∷ 4294967290 ∷ (c + 2) ∷ 1 ∷ []) cs
+
 -- of the regions marked, with the counts that a scan has left: whether the regions below them are marked too, whether one of them is counted still, whether a slot of an uncounted frame leads into one,
 -- whether either does; the names left
 abbrev reads : List ℕ → List ℕ → List (List ℕ)
 reads marks cs =
     let m : ℕ → Bool = tickAt marks in
-    (bit (closedIn names parents m) ∷ bit (stillCounted cs m) ∷ bit (led m) ∷ bit (stillCounted cs m || led m) ∷ []) ∷ namesLeft names m 64 ∷ []
+    (bit (closedIn names parents m) ∷ bit (stillCounted (shared cs) m) ∷ bit (led m) ∷ bit (stillCounted (shared cs) m || led m) ∷ []) ∷ namesLeft names m 64 ∷ []
 
 abbrev cases : List ((List ℕ × List ℕ) × List (List ℕ))
 cases =
@@ -44,5 +48,5 @@ cases =
     ∷ []
 
 pub computed : every (λ p. equal (equal eqb) (reads (p .0 .0) (p .0 .1)) (p .1)) cases ≡ true
-unfolding closedIn followsIn ownerIn targetsIn ledAmongIn tickAt stillCounted zeroed namesLeft
+unfolding added countIn closedIn followsIn ownerIn targetsIn ledAmongIn tickAt stillCounted zeroed namesLeft
 computed = refl

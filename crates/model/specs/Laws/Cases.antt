@@ -15,7 +15,7 @@ use Rattle.model.specs.Moves.{fromRegion, fromRegions}
 abbrev calls : List Call
 calls =
     declare (1 ∷ 1 ∷ []) ∷ newRegion ∷ newRegion ∷ newRegion ∷ push 4 ∷ allocate 0 1 1 ∷ allocate 1 2 1 ∷ allocate 2 3 1 ∷ allocate 3 4 1
-    ∷ setPointer 1 0 2 ∷ setPointer 1 1 0 ∷ setPointer 2 0 1 ∷ setPointer 2 1 3 ∷ setPointer 0 0 3 ∷ setPointer 3 0 0
+    ∷ setPointer 1 0 2 0 ∷ setPointer 1 1 0 0 ∷ setPointer 2 0 1 0 ∷ setPointer 2 1 3 0 ∷ setPointer 0 0 3 0 ∷ setPointer 3 0 0 0
     ∷ clear 0 ∷ clear 1 ∷ copy 3 2 ∷ push 1 ∷ []
 
 abbrev linked : Model

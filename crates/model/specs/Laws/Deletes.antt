@@ -102,10 +102,10 @@ module _ (L : Model) (v : Valid L) (rs : List ℕ) (m : Removable L rs) where
       away : (u n : ℕ) → (among u rs ≡ true → among n rs ≡ true) → not (among n rs) ≡ true → among u rs ≡ false
       away u n c e = by-test (among u rs) (λ t. absurd (false≢true (rw (c t) at e))) (λ t. t)
 
-pub delete-all-valid : (L : Model) → Valid L → (rs : List ℕ) → refusal L (deleteAll rs) ≡ 0 → Valid (accepted L (deleteAll rs))
+pub delete-all-valid : (L : Model) → Valid L → (rs : List ℕ) (f : ℕ) → refusal L (deleteAll rs f) ≡ 0 → Valid (accepted L (deleteAll rs f))
 unfolding accepted
-delete-all-valid L v rs e = remove-valid L v rs (removable-all L rs e)
+delete-all-valid L v rs f e = remove-valid L v rs (removable-all L rs f e)
 
-pub delete-valid : (L : Model) → Valid L → (r : ℕ) → refusal L (delete r) ≡ 0 → Valid (accepted L (delete r))
+pub delete-valid : (L : Model) → Valid L → (r f : ℕ) → refusal L (delete r f) ≡ 0 → Valid (accepted L (delete r f))
 unfolding accepted
-delete-valid L v r e = remove-valid L v (r ∷ []) (removable-one L r e)
+delete-valid L v r f e = remove-valid L v (r ∷ []) (removable-one L r f e)

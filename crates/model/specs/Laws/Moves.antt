@@ -47,17 +47,17 @@ module _ (L : Model) (r : ℕ) (v : Valid L) where
   accepted-stored newRegion e l = still _ (region-stored L r v 0 1)
   accepted-stored (subregion q) e l = still _ (region-stored L r v q ((region (L .regions) q) .level + 1))
   accepted-stored (push n) e l = still _ (push-stored L r v (replicate n 0))
-  accepted-stored dropFrame e l = omega (arith, pop-stored L r v)
-  accepted-stored (handBack s b) e l = omega (arith, fill-stored (popFrame L) r (pop-valid L v) b (slot L s), pop-stored L r v)
+  accepted-stored (dropFrame f) e l = omega (arith, pop-stored L r v)
+  accepted-stored (handBack s b f) e l = omega (arith, fill-stored (popFrame L) r (pop-valid L v) b (slot L s), pop-stored L r v)
   accepted-stored (allocate s q k) e l = still _ (fill-stored (addObject L q k) r (made-valid L v s q k e) s (length (L .objects) + 1) ∙ object-stored L r v (positive (allocate s q k) e l) q k)
   accepted-stored (first s q) e l = still _ (fill-stored L r v s ((region (L .regions) q) .oldest))
   accepted-stored (copy s t) e l = still _ (fill-stored L r v t (slot L s))
   accepted-stored (fetch b s) e l = still _ (fill-stored L r v s (getD (beneath L) b 0))
   accepted-stored (clear s) e l = still _ (fill-stored L r v s 0)
   accepted-stored (load s w t) e l = still _ (fill-stored L r v t (getD ((inSlot L s) .words) w 0))
-  accepted-stored (setPointer s w p) e l =
-      let t = passed L (setPointer s w p) e in
-      write-stored L r v s w (slot L p) (t .1 .1 .0) (leb-false (length ((inSlot L s) .words)) w (t .1 .1 .1 .0))
+  accepted-stored (setPointer s w p f) e l =
+      let t = passed L (setPointer s w p f) e in
+      write-stored L r v s w (slot L p) (t .1 .1 .1 .0) (leb-false (length ((inSlot L s) .words)) w (t .1 .1 .1 .1 .0))
   accepted-stored (put s w x) e l = still _ (put-stored s w x e)
   accepted-stored (get s w) e l = refl
   accepted-stored (view s) e l = refl
@@ -66,8 +66,8 @@ module _ (L : Model) (r : ℕ) (v : Valid L) where
   accepted-stored (report q) e l = refl
   accepted-stored totals e l = refl
   accepted-stored audit e l = refl
-  accepted-stored (delete q) e l = remove-stored L v (q ∷ []) (removable-one L q e) r (not-removed (L .regions) (q ∷ []) r l)
-  accepted-stored (deleteAll qs) e l = remove-stored L v qs (removable-all L qs e) r (not-removed (L .regions) qs r l)
+  accepted-stored (delete q f) e l = remove-stored L v (q ∷ []) (removable-one L q f e) r (not-removed (L .regions) (q ∷ []) r l)
+  accepted-stored (deleteAll qs f) e l = remove-stored L v qs (removable-all L qs f e) r (not-removed (L .regions) qs r l)
   accepted-stored (ask q) e l = refl
 
   pub next-stored : (c : Call) → livesIn (next L c) r ≡ true → stored (next L c) r + (movesBy (refusal L c) L c r) .1 ≡ stored L r + (movesBy (refusal L c) L c r) .0

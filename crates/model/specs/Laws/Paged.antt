@@ -176,8 +176,8 @@ accepted-paged L v p (declare ms) e = still L p refl refl (λ r. refl)
 accepted-paged L v p newRegion e = region-paged L p v 0 1
 accepted-paged L v p (subregion r) e = region-paged L p v r ((region (L .regions) r) .level + 1)
 accepted-paged L v p (push n) e = still L p refl refl (λ r. refl)
-accepted-paged L v p dropFrame e = pop-paged L p
-accepted-paged L v p (handBack s b) e = fill-paged (popFrame L) (pop-paged L p) b (slot L s)
+accepted-paged L v p (dropFrame f) e = pop-paged L p
+accepted-paged L v p (handBack s b f) e = fill-paged (popFrame L) (pop-paged L p) b (slot L s)
 accepted-paged L v p (allocate s r k) e =
     let t = passed L (allocate s r k) e in
     fill-paged (addObject L r k) (object-paged L p v r k (not-false (livesIn L r) (t .1 .1 .0)) (t .1 .1 .1 .1 .0)) s (length (L .objects) + 1)
@@ -186,7 +186,7 @@ accepted-paged L v p (copy s t) e = fill-paged L p t (slot L s)
 accepted-paged L v p (fetch b s) e = fill-paged L p s (getD (beneath L) b 0)
 accepted-paged L v p (clear s) e = fill-paged L p s 0
 accepted-paged L v p (load s w t) e = fill-paged L p t (getD ((inSlot L s) .words) w 0)
-accepted-paged L v p (setPointer s w q) e = write-paged L p s w (slot L q)
+accepted-paged L v p (setPointer s w q f) e = write-paged L p s w (slot L q)
 accepted-paged L v p (put s w x) e = write-paged L p s w x
 accepted-paged L v p (get s w) e = p
 accepted-paged L v p (view s) e = p
@@ -195,8 +195,8 @@ accepted-paged L v p (about s) e = p
 accepted-paged L v p (report r) e = p
 accepted-paged L v p totals e = p
 accepted-paged L v p audit e = p
-accepted-paged L v p (delete r) e = remove-paged L p v (r ∷ []) (removable-one L r e)
-accepted-paged L v p (deleteAll rs) e = remove-paged L p v rs (removable-all L rs e)
+accepted-paged L v p (delete r f) e = remove-paged L p v (r ∷ []) (removable-one L r f e)
+accepted-paged L v p (deleteAll rs f) e = remove-paged L p v rs (removable-all L rs f e)
 accepted-paged L v p (ask q) e = p
 
 pub next-paged : {N : ℕ} (L : Model) → Valid L → Paged N L → (c : Call) → Paged N (next L c)

@@ -6,11 +6,15 @@ use mathlib.Core.List.{List, [], _∷_, _++_}
 use Prim.Native.Nat.{ℕ, _<_}
 use native.Mathlib.Omega.{arith}
 use lib.Dec.{eqb, ltb}
-use borrow.Author.Tests.{ltb-true}
+use borrow.Author.Tests.{ltb-true, ltb-false}
 use Rattle.lists.specs.Lists.{pick, every, All}
 use Rattle.lists.specs.Laws.Tests.{both}
 use Rattle.model.specs.Model.{Model, Call, declare, newRegion, subregion, push, dropFrame, handBack, allocate, first, copy, fetch, clear, load, setPointer, put, get, view, same, about, report, totals, audit, delete, deleteAll, Query, locate, ask}
-use Rattle.model.specs.Calls.{checks, queryChecks, refusal, reason, dead, nameTests}
+use Rattle.model.specs.Calls.{checks, queryChecks, refusal, reason, noFiller, dead, nameTests}
+
+-- a filler that passes is one of four
+pub filler-one : (f : ℕ) → noFiller f ≡ false → f < 4
+filler-one f e = omega (arith, ltb-false 3 f e)
 
 abbrev pub positive : Bool × ℕ → Bool
 positive t = ltb 0 (t .1)
@@ -69,15 +73,15 @@ numbers L (declare ms) = refl
 numbers L newRegion = refl
 numbers L (subregion r) = refl
 numbers L (push n) = refl
-numbers L dropFrame = refl
-numbers L (handBack s b) = refl
+numbers L (dropFrame f) = refl
+numbers L (handBack s b f) = refl
 numbers L (allocate s r k) = refl
 numbers L (first s r) = refl
 numbers L (copy s t) = refl
 numbers L (fetch b s) = refl
 numbers L (clear s) = refl
 numbers L (load s w t) = refl
-numbers L (setPointer s w v) = refl
+numbers L (setPointer s w v f) = refl
 numbers L (put s w x) = refl
 numbers L (get s w) = refl
 numbers L (view s) = refl
@@ -86,8 +90,8 @@ numbers L (about s) = refl
 numbers L (report r) = refl
 numbers L totals = refl
 numbers L audit = refl
-numbers L (delete r) = refl
-numbers L (deleteAll rs) = names-numbers (ltb 0) refl refl (dead L) rs _ refl
+numbers L (delete r f) = refl
+numbers L (deleteAll rs f) = names-numbers (ltb 0) refl refl (dead L) rs _ refl
 numbers L (ask q) = query-numbers L q
 
 -- in the tests' order: t .0, t .1 .0, t .1 .1 .0, .. of `passed L c e`

@@ -102,12 +102,12 @@ module _ (L : Model) (rs : List ℕ) where
     }
 
 -- an accepted joint delete
-pub removable-all : (L : Model) (rs : List ℕ) → refusal L (deleteAll rs) ≡ 0 → Removable L rs
+pub removable-all : (L : Model) (rs : List ℕ) (f : ℕ) → refusal L (deleteAll rs f) ≡ 0 → Removable L rs
 unfolding checks wrongNames
-removable-all L rs e =
-    let c = passed L (deleteAll rs) e in
-    let n = names-passed (dead L) rs _ (c .1) in
-    let w = neither (eqb (length rs) 0 || ltb 16 (length rs)) (repeats rs) (c .0) in
+removable-all L rs f e =
+    let c = passed L (deleteAll rs f) e in
+    let n = names-passed (dead L) rs _ (c .1 .1) in
+    let w = neither (eqb (length rs) 0 || ltb 16 (length rs)) (repeats rs) (c .1 .0) in
     removable-by L rs (all-map (λ r z. eqb-true (outsideBut L rs r) 0 (not-false (eqb (outsideBut L rs r) 0) z)) rs (any-false (λ r. not (eqb (outsideBut L rs r) 0)) rs (n .1 .1 .0)))
     (w .1) (n .0) (not-false (closed (L .regions) rs) (n .1 .0))
 
@@ -126,13 +126,13 @@ outside-one L r = ap (λ n. n + inFrames (homeIn L) r (L .frames)) (ap (λ f. su
         go true false n = refl
         go false b n = refl
 
-pub removable-one : (L : Model) (r : ℕ) → refusal L (delete r) ≡ 0 → Removable L (r ∷ [])
+pub removable-one : (L : Model) (r f : ℕ) → refusal L (delete r f) ≡ 0 → Removable L (r ∷ [])
 unfolding checks closed
-removable-one L r e =
-    let c = passed L (delete r) e in
-    let subs = eqb-true (subregions L r) 0 (not-false (eqb (subregions L r) 0) (c .1 .1 .0)) in
-    let out = eqb-true (outside L r) 0 (not-false (eqb (outside L r) 0) (c .1 .1 .1 .0)) in
-    removable-by L (r ∷ []) (outside-one L r ∙ out, tt) refl ((c .0, c .1 .0), tt)
+removable-one L r f e =
+    let c = passed L (delete r f) e in
+    let subs = eqb-true (subregions L r) 0 (not-false (eqb (subregions L r) 0) (c .1 .1 .1 .0)) in
+    let out = eqb-true (outside L r) 0 (not-false (eqb (outside L r) 0) (c .1 .1 .1 .1 .0)) in
+    removable-by L (r ∷ []) (outside-one L r ∙ out, tt) refl ((c .1 .0, c .1 .1 .0), tt)
     (true-every (λ g. not (among (g .parent) (r ∷ [])) || among (g .name) (r ∷ [])) (L .regions) (all-map none (L .regions) (sum-zero (λ g. bit (eqb (g .parent) r)) (L .regions) subs)))
   where
     none : (g : Region) → bit (eqb (g .parent) r) ≡ 0 → (not (among (g .parent) (r ∷ [])) || among (g .name) (r ∷ [])) ≡ true

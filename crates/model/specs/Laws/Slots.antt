@@ -151,16 +151,16 @@ module _ (L : Model) (v : Valid L) where
             }));
       }
 
-  pub set-valid : (s w p : ℕ) → refusal L (setPointer s w p) ≡ 0 → Valid (accepted L (setPointer s w p))
+  pub set-valid : (s w p f : ℕ) → refusal L (setPointer s w p f) ≡ 0 → Valid (accepted L (setPointer s w p f))
   unfolding accepted checks
-  set-valid s w p e =
-      let a = not-false (allowed (parentIn L) (homeIn L) ((inSlot L s) .home) (markAt L s w) (slot L p)) (passed L (setPointer s w p) e .1 .1 .1 .1 .1 .0) in
+  set-valid s w p f e =
+      let a = not-false (allowed (parentIn L) (homeIn L) ((inSlot L s) .home) (markAt L s w) (slot L p)) (passed L (setPointer s w p f) e .1 .1 .1 .1 .1 .1 .0) in
       write-valid s w (slot L p) (or-right (eqb (markAt L s w) 0) _ (rw (slot-known (topPlace (L .frames)) p, a)))
 
   pub put-valid : (s w x : ℕ) → refusal L (put s w x) ≡ 0 → Valid (accepted L (put s w x))
   unfolding accepted checks
   put-valid s w x e = write-valid s w x (rw (not-false (eqb (markAt L s w) 0) (passed L (put s w x) e .1 .1 .1 .1 .0)))
 
-pub hand-valid : (L : Model) → Valid L → (s b : ℕ) → Valid (accepted L (handBack s b))
+pub hand-valid : (L : Model) → Valid L → (s b f : ℕ) → Valid (accepted L (handBack s b f))
 unfolding accepted popFrame
-hand-valid L v s b = fill-valid (popFrame L) (pop-valid L v) b (slot L s) (slot-known L v (topPlace (L .frames)) s)
+hand-valid L v s b f = fill-valid (popFrame L) (pop-valid L v) b (slot L s) (slot-known L v (topPlace (L .frames)) s)

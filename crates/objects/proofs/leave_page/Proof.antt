@@ -14,21 +14,21 @@ use Rattle.objects.proofs.leave_page.Tie as tie
 
 -- when the words left leave too, all have left
 abbrev Inv-loop : tie.InvT-loop
-Inv-loop declared sizes marks heap owners j n counts₀ own at₀ end counts at =
+Inv-loop declared sizes marks heap owners j n shares₀ filler own at₀ end shares at =
     let k = kindsWith declared sizes marks in
-    (at ≤ end) × (length counts ≡ length counts₀) × (leavings counts (outOf owners own (wordsLeft k heap at end)) ≡ leavings counts₀ (outOf owners own (wordsLeft k heap at₀ end)))
+    (at ≤ end) × (length shares ≡ length shares₀) × (leavings filler shares (outOf owners own (wordsLeft k heap at end)) ≡ leavings filler shares₀ (outOf owners own (wordsLeft k heap at₀ end)))
 
 abbrev μ-loop : tie.MeasureT-loop
-μ-loop declared sizes marks heap owners j n counts₀ own at₀ end counts at = end - at
+μ-loop declared sizes marks heap owners j n shares₀ filler own at₀ end shares at = end - at
 
 loop-holds : tie.Need-loop-holds Inv-loop μ-loop
 loop-holds c = (search needs, refl, refl)
 
 -- the words of one object, and those left
-next : (owners : List ℕ) (own : ℕ) (cs ds a b : List ℕ) → ds ≡ leavings cs (outOf owners own a) → leavings ds (outOf owners own b) ≡ leavings cs (outOf owners own (a ++ b))
-next owners own cs ds a b p = ap (λ c. leavings c (outOf owners own b)) p ∙ left-left owners own cs a b
+next : (owners : List ℕ) (own f : ℕ) (cs ds a b : List ℕ) → ds ≡ leavings f cs (outOf owners own a) → leavings f ds (outOf owners own b) ≡ leavings f cs (outOf owners own (a ++ b))
+next owners own f cs ds a b p = ap (λ c. leavings f c (outOf owners own b)) p ∙ left-left owners own f cs a b
 
--- one object: where it ends, and the counts when the words left leave too
+-- one object: where it ends, and the shares when the words left leave too
 leaves :
     (c : tie.After-leave-words Inv-loop μ-loop) →
     let s = c .before .before .before .fitting .result in
@@ -38,7 +38,7 @@ leaves :
     let e = 64 * a .j + a .n in
     let cs : List ℕ = c .leave-words .last .1 .1 .1 .1 .0 in
     let left : ℕ → List ℕ = λ at. outOf (a .owners .now) (a .own) (wordsLeft k (a .heap .now) at e) in
-    (l .loop .at + 1 + s ≤ e) × (length cs ≡ length (l .loop .counts)) × (leavings cs (left (l .loop .at + 1 + s)) ≡ leavings (l .loop .counts) (left (l .loop .at)))
+    (l .loop .at + 1 + s ≤ e) × (length cs ≡ length (l .loop .shares)) × (leavings (a .filler) cs (left (l .loop .at + 1 + s)) ≡ leavings (a .filler) (l .loop .shares) (left (l .loop .at)))
 leaves c =
     let z = c .before .before .before in
     let l = z .before .before .before in
@@ -47,7 +47,7 @@ leaves c =
     let m = z .before .part-at .ensures in
     let o = words-on k (a .heap .now) (l .loop .at) (64 * a .j + a .n) (z .fitting .result) (rw m at (z .fitting .ensures)) (c .before .before .if1 .left) in
     let h = rw m at (c .leave-words .ensures) in
-    (o .0, ap length h ∙ steps-length 4294967295 (l .loop .counts) _, rw (o .1) (next (a .owners .now) (a .own) (l .loop .counts) _ _ _ h))
+    (o .0, ap length h ∙ steps-length 4294967295 _ (l .loop .shares) _, rw (o .1) (next (a .owners .now) (a .own) (a .filler) (l .loop .shares) _ _ _ h))
 
 loop-again : tie.Need-loop-again Inv-loop μ-loop
 loop-again c =

@@ -16,10 +16,10 @@ use Rattle.objects.proofs.leave_words.Tie as tie
 
 -- the words passed have left
 abbrev Inv-loop : tie.InvT-loop
-Inv-loop marks object n owners counts₀ own kind w₀ counts w = (w ≤ n) × (counts ≡ leavings counts₀ (outOf owners own (freeWordsIn marks object w)))
+Inv-loop marks object n owners shares₀ filler own kind w₀ shares w = (w ≤ n) × (shares ≡ leavings filler shares₀ (outOf owners own (freeWordsIn marks object w)))
 
 abbrev μ-loop : tie.MeasureT-loop
-μ-loop marks object n owners counts₀ own kind w₀ counts w = n - w
+μ-loop marks object n owners shares₀ filler own kind w₀ shares w = n - w
 
 loop-holds : tie.Need-loop-holds Inv-loop μ-loop
 unfolding outOf freeWordsIn steps
@@ -34,8 +34,8 @@ loop-again c =
       omega arith,
       ⊎-elim
           (λ w.
-          rw (free-one (a .marks .now) (a .object .now) (l .loop .w) (sym m ∙ w .0 .taken), ← left-left (a .owners .now) (a .own) (a .counts .now) (freeWordsIn (a .marks .now) (a .object .now) (l .loop .w)) (wordIn (a .object .now) (l .loop .w) ∷ []), ← l .loop .inv .1)
-          (w .6 ∙ w .3 .ensures ∙ ap (λ v. leavings (l .loop .counts) (outOf (a .owners .now) (a .own) (v ∷ []))) (w .2 .ensures)))
+          rw (free-one (a .marks .now) (a .object .now) (l .loop .w) (sym m ∙ w .0 .taken), ← left-left (a .owners .now) (a .own) (a .filler) (a .shares .now) (freeWordsIn (a .marks .now) (a .object .now) (l .loop .w)) (wordIn (a .object .now) (l .loop .w) ∷ []), ← l .loop .inv .1)
+          (w .6 ∙ w .3 .ensures ∙ ap (λ v. leavings (a .filler) (l .loop .shares) (outOf (a .owners .now) (a .own) (v ∷ []))) (w .2 .ensures)))
           (λ w. rw (free-not (a .marks .now) (a .object .now) (l .loop .w) (λ q. w .0 .left (m ∙ q))) (w .1 ∙ l .loop .inv .1))
           (c .if1 .came),
     )
@@ -44,7 +44,7 @@ returns : tie.Need-returns Inv-loop μ-loop
 returns c = let l = c .before in let e : l .before .before .before .before .before .before .args .n ≡ l .loop .w = omega arith in rw e (l .loop .inv .1)
 
 same-length : tie.Need-same-length Inv-loop μ-loop
-same-length c = let l = c .before in ap length (l .loop .inv .1) ∙ steps-length 4294967295 (l .before .before .before .before .before .before .args .counts .now) _
+same-length c = let l = c .before in ap length (l .loop .inv .1) ∙ steps-length 4294967295 _ (l .before .before .before .before .before .before .args .shares .now) _
 
 pub leave-words-spec : {M : Type 1} → statement M
 leave-words-spec =

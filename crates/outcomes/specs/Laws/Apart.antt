@@ -1,9 +1,9 @@
--- Pages one after the other: the scan moves the counts alone, the giving back the owners alone, and what they are then.
+-- Pages one after the other: the scan moves the shares of its filler alone, the giving back the owners alone, and what they are then.
 -- Assumes nothing.
 use mathlib.Core.Path.{_≡_, refl, sym, ap, _∙_, fun-ext}
 use mathlib.Core.Bool.{Bool, true, false}
 use mathlib.Core.List.{List, [], _++_, append-nil, append-assoc}
-use Prim.Native.Nat.{ℕ, zero, suc, _+_}
+use Prim.Native.Nat.{ℕ, zero, suc, _+_, _<_}
 use native.Mathlib.Numerals.{add-one}
 use lib.ListN.{getD, set}
 use Rattle.lists.specs.Lists.{pick, countOf, joined, upTo, zeroed}
@@ -12,10 +12,10 @@ use Rattle.lists.specs.Laws.UpTo.{joined-next, joined-suc}
 use Rattle.lists.specs.Laws.Zeroed.{below, zeroed-none, zeroed-later, zeroed-own, zeroed-other}
 use Rattle.kinds.specs.declared.Kinds.{Kinds}
 use Rattle.regions.specs.declared.Regions.{Regions}
-use Rattle.regions.specs.Regions.{withCounts, recount}
-use Rattle.regions.specs.Laws.Counts.{Counts}
+use Rattle.regions.specs.Regions.{withShares, recount}
+use Rattle.regions.specs.Laws.Counts.{Shares}
 use Rattle.regions.specs.Laws.Steps.{leavings, steps-append}
-use Rattle.regions.specs.Laws.Recount.{recount-recount, recount-none, recount-counts, leave-recount}
+use Rattle.regions.specs.Laws.Recount.{recount-recount, recount-none, recount-shares, leave-recount}
 use Rattle.pages.specs.declared.Pages.{Pages}
 use Rattle.pages.specs.Pages.{pagesWith, ownerAt, takenAt}
 use Rattle.objects.specs.Objects.{freeWordsOn, freeWordsTo, outOf}
@@ -47,11 +47,11 @@ module _ (os : ℕ → List ℕ) (k : Kinds) (heap : List ℕ) (p : Pages) (memb
   pub out-other : member (ownerAt p n) ≡ false → out n ≡ out (n + 1)
   out-other h = sym (out-next ∙ rw h (append-nil (out n)))
 
-  -- the counts ds when the words of page n leave, which is of the region with tag t, and of which m are taken
-  pub out-left : (t m : ℕ) (cs ds : List ℕ) → t ≡ ownerAt p n → m ≡ takenAt p n → ds ≡ leavings cs (out n) → member t ≡ true
-      → leavings ds (outOf (os n) t (freeWordsTo k heap n m)) ≡ leavings cs (out (n + 1))
+  -- the shares ds when the words of page n leave, which is of the region with tag t, and of which m are taken
+  pub out-left : (f t m : ℕ) (cs ds : List ℕ) → t ≡ ownerAt p n → m ≡ takenAt p n → ds ≡ leavings f cs (out n) → member t ≡ true
+      → leavings f ds (outOf (os n) t (freeWordsTo k heap n m)) ≡ leavings f cs (out (n + 1))
   unfolding freeWordsOn
-  out-left t m cs ds et em ed h = rw (out-next, ← et, h, ← em, ed) (steps-append 4294967295 cs (out n) (outOf (os n) t (freeWordsTo k heap n m)))
+  out-left f t m cs ds et em ed h = rw (out-next, ← et, h, ← em, ed) (steps-append 4294967295 f cs (out n) (outOf (os n) t (freeWordsTo k heap n m)))
 
 -- as they all were before
 abbrev pub outFrom : Kinds → List ℕ → Pages → (ℕ → Bool) → ℕ → List ℕ
@@ -74,14 +74,14 @@ module _ (S : Store) (member : ℕ → Bool) where
     unfolding turns ownerAt
     turns-are same n = ap (λ f. countOf f (upTo n)) (fun-ext (λ j. ap (λ T. member (getD ((pages T) .owners) j 0)) (each-is j) ∙ ap member (same j)))
 
-  -- the regions once the words of the pages below n have left, by the owners that there are at each page's turn
-  module _ (os : ℕ → List ℕ) where
+  -- the regions once the words of the pages below n have left filler f's shares, by the owners that there are at each page's turn
+  module _ (f : ℕ) (os : ℕ → List ℕ) where
     abbrev wordsOf : ℕ → List ℕ
     wordsOf j = outOf (os j) (ownerAt (pages S) j) (freeWordsOn (kinds S) (S .heap) (pages S) j)
 
     unfoldable pub leftBy : ℕ → Regions
     leftBy zero = regions S
-    leftBy (suc n) = pick (member (ownerAt (pages S) n)) (recount (leftBy n) [] (wordsOf n)) (leftBy n)
+    leftBy (suc n) = pick (member (ownerAt (pages S) n)) (recount (leftBy n) f [] (wordsOf n)) (leftBy n)
 
     abbrev words : ℕ → List ℕ
     words = outBy os (kinds S) (S .heap) (pages S) member
@@ -91,43 +91,44 @@ module _ (S : Store) (member : ℕ → Bool) where
     words-suc = joined-suc (λ j. pick (member (ownerAt (pages S) j)) (wordsOf j) [])
 
     -- what is counted of them then
-    pub left-recount : (n : ℕ) (come more : List ℕ) → recount (leftBy n) come more ≡ recount (regions S) come (words n ++ more)
+    pub left-recount : (n : ℕ) (come more : List ℕ) → recount (leftBy n) f come more ≡ recount (regions S) f come (words n ++ more)
     unfolding leftBy outBy
     left-recount zero come more = refl
     left-recount (suc n) come more = rw (words-suc n, append-assoc (words n)) (go (member (ownerAt (pages S) n)) (left-recount n come))
       where
-        go : (b : Bool) → ((more : List ℕ) → recount (leftBy n) come more ≡ recount (regions S) come (words n ++ more))
-            → recount (pick b (recount (leftBy n) [] (wordsOf n)) (leftBy n)) come more ≡ recount (regions S) come (words n ++ (pick b (wordsOf n) [] ++ more))
-        go true ih = recount-recount (leftBy n) [] (wordsOf n) come more ∙ ih (wordsOf n ++ more)
+        go : (b : Bool) → ((more : List ℕ) → recount (leftBy n) f come more ≡ recount (regions S) f come (words n ++ more))
+            → recount (pick b (recount (leftBy n) f [] (wordsOf n)) (leftBy n)) f come more ≡ recount (regions S) f come (words n ++ (pick b (wordsOf n) [] ++ more))
+        go true ih = recount-recount (leftBy n) f [] (wordsOf n) come more ∙ ih (wordsOf n ++ more)
         go false ih = ih more
 
-    -- where the counts fit their type, they are those that the words have left
-    left-counts : Counts ((regions S) .counts) → (n : ℕ) → Counts ((leftBy n) .counts)
+    -- where the shares fit their type, and there is such a filler, they are those that the words have left
+    left-shares : Shares ((regions S) .shares) → (n : ℕ) → Shares ((leftBy n) .shares)
     unfolding leftBy
-    left-counts fits zero = fits
-    left-counts fits (suc n) = go (member (ownerAt (pages S) n)) (left-counts fits n)
+    left-shares fits zero = fits
+    left-shares fits (suc n) = go (member (ownerAt (pages S) n)) (left-shares fits n)
       where
-        go : (b : Bool) → Counts ((leftBy n) .counts) → Counts ((pick b (recount (leftBy n) [] (wordsOf n)) (leftBy n)) .counts)
-        go true ih = recount-counts (leftBy n) [] (wordsOf n)
+        go : (b : Bool) → Shares ((leftBy n) .shares) → Shares ((pick b (recount (leftBy n) f [] (wordsOf n)) (leftBy n)) .shares)
+        go true ih = recount-shares (leftBy n) f [] (wordsOf n) ih
         go false ih = ih
 
-    pub left-is : Counts ((regions S) .counts) → (n : ℕ) → leftBy n ≡ withCounts (regions S) (leavings ((regions S) .counts) (words n))
-    left-is fits n = sym (recount-none (leftBy n) (left-counts fits n)) ∙ left-recount n [] [] ∙ rw (append-nil (words n)) (sym (leave-recount (regions S) fits (words n)))
+    pub left-is : f < 4 → Shares ((regions S) .shares) → (n : ℕ) → leftBy n ≡ withShares (regions S) (leavings f ((regions S) .shares) (words n))
+    left-is small fits n = sym (recount-none (leftBy n) f (left-shares fits n)) ∙ left-recount n [] [] ∙ rw (append-nil (words n)) (sym (leave-recount (regions S) f small fits (words n)))
 
   -- the scan
   abbrev pub still : ℕ → List ℕ
   still n = owners
 
-  scan-starts : S ≡ apart S (leftBy still 0) owners
-  unfolding leftBy
-  scan-starts = refl
+  module _ (f : ℕ) where
+    scan-starts : S ≡ apart S (leftBy f still 0) owners
+    unfolding leftBy
+    scan-starts = refl
 
-  scan-next : (n : ℕ) → turn pageScanned member (apart S (leftBy still n) owners) n ≡ apart S (leftBy still (suc n)) owners
-  unfolding turn leftBy pageScanned recounted
-  scan-next n = by-test (member (ownerAt (pages S) n)) (λ h. rw h) (λ h. rw h)
+    scan-next : (n : ℕ) → turn (pageScanned f) member (apart S (leftBy f still n) owners) n ≡ apart S (leftBy f still (suc n)) owners
+    unfolding turn leftBy pageScanned recounted
+    scan-next n = by-test (member (ownerAt (pages S) n)) (λ h. rw h) (λ h. rw h)
 
-  pub scanned-is : (n : ℕ) → eachPage pageScanned member S n ≡ apart S (leftBy still n) owners
-  scanned-is = each-is pageScanned (leftBy still) still scan-starts scan-next
+    pub scanned-is : (n : ℕ) → eachPage (pageScanned f) member S n ≡ apart S (leftBy f still n) owners
+    scanned-is = each-is (pageScanned f) (leftBy f still) still scan-starts scan-next
 
   -- the giving back: a page come to is as it was, one page more, and all
   abbrev pub freeing : ℕ → List ℕ

@@ -88,7 +88,7 @@ module _ (r : Regions) (h : RegionsBounded r) where
     names = all-set (λ x. x < 4294967296) (r .names) i (r .given + 1) (h .names) (omega arith);
     parents = all-set (λ x. x < 256) (r .parents) i t (h .parents) x;
     levels = all-set (λ x. x < 256) (r .levels) i l (h .levels) y;
-    counts = all-set (λ x. x < 4294967296) (r .counts) i 0 (h .counts) (omega arith);
+    shares = all-sets (λ x. x < 4294967296) (replicate 4 0) (r .shares) (4 * i) (h .shares) (all-replicate (λ x. x < 4294967296) 4 0 (omega arith));
     newest = all-set (λ x. x < 65536) (r .newest) i 0 (h .newest) (omega arith);
     oldest = all-set (λ x. x < 4294967296) (r .oldest) i 0 (h .oldest) (omega arith);
   }
@@ -100,7 +100,7 @@ module _ (r : Regions) (h : RegionsBounded r) where
     names = cleared es;
     parents = h .parents;
     levels = h .levels;
-    counts = h .counts;
+    shares = h .shares;
     newest = h .newest;
     oldest = h .oldest;
   }
@@ -116,20 +116,20 @@ module _ (r : Regions) (h : RegionsBounded r) where
     names = h .names;
     parents = h .parents;
     levels = h .levels;
-    counts = h .counts;
+    shares = h .shares;
     newest = all-set (λ x. x < 65536) (r .newest) i p (h .newest) x;
     oldest = all-set (λ x. x < 4294967296) (r .oldest) i v (h .oldest) y;
   }
 
-  pub recount-bounded : (come gone : List ℕ) → RegionsBounded (recount r come gone)
-  recount-bounded come gone =
-      let b = recount-beside r come gone in
+  pub recount-bounded : (f : ℕ) (come gone : List ℕ) → RegionsBounded (recount r f come gone)
+  recount-bounded f come gone =
+      let b = recount-beside r f come gone in
       record {
         given = rw (b .given) (h .given);
         names = rw (b .names) (h .names);
         parents = rw (b .parents) (h .parents);
         levels = rw (b .levels) (h .levels);
-        counts = recount-below r come gone;
+        shares = recount-below r f come gone (λ p. below-at 4294967296 (r .shares) p (omega arith) (h .shares));
         newest = rw (b .newest) (h .newest);
         oldest = rw (b .oldest) (h .oldest);
       }
@@ -160,7 +160,7 @@ blank-bounded n r most few heap h = record {
     names = first 4294967296 (omega arith);
     parents = zeros 256 64 (omega arith);
     levels = first 256 (omega arith);
-    counts = zeros 4294967296 64 (omega arith);
+    shares = zeros 4294967296 256 (omega arith);
     newest = zeros 65536 64 (omega arith);
     oldest = zeros 4294967296 64 (omega arith);
   };

@@ -10,7 +10,7 @@ use Rattle.lists.specs.Lists.{pick, every, equal}
 use Rattle.model.specs.Model.{climb, locate}
 use Rattle.frames.specs.Frames.{frameCount, topFrame, widthAt, slotAt, putSlot}
 use Rattle.kinds.specs.Kinds.{kindCount, sizeOf, markAt, sizeIn}
-use Rattle.regions.specs.Regions.{nameAt, nameOf, entryOf, parentAt, levelAt, newestAt, oldestAt, countAt, withPage, entryIn, nameIn}
+use Rattle.regions.specs.Regions.{nameAt, nameOf, entryOf, parentAt, levelAt, newestAt, oldestAt, countAt, countIn, added, withRegion, withPage, entryIn, nameIn}
 use Rattle.pages.specs.Pages.{pageCount, ownerAt, takenAt, pageOf, wordOf, isFree, firstFree, firstFreeIn, withTaken}
 use Rattle.objects.specs.Objects.{walk, headersTo, headersOn}
 use Rattle.outcomes.specs.Store.{Store, slot, size, roomy, roomyIn}
@@ -29,12 +29,12 @@ abbrev right : Example → Bool
 right e = equal eqb (failing 0 (clauses (e .memory))) (e .breaks)
 
 pub broken : every right examples ≡ true
-unfolding frameCount widthAt slotAt kindCount sizeOf markAt nameAt nameOf entryOf parentAt levelAt newestAt oldestAt countAt pageCount ownerAt takenAt isFree walk headersTo headersOn entries listedRegions listedKinds listedFrames listedHeld listedFree metOn begin slotsOf pointersOf leads homeOf slotsLeadingTo wordsLeadingTo outside uncountedInto storedCount countsExact slotsLead wordsLead pagesHeld filled placed newestOwn oldestOwn sizeIn nameIn entryIn climb
+unfolding withRegion frameCount widthAt slotAt kindCount sizeOf markAt nameAt nameOf entryOf parentAt levelAt newestAt oldestAt countAt countIn added pageCount ownerAt takenAt isFree walk headersTo headersOn entries listedRegions listedKinds listedFrames listedHeld listedFree metOn begin slotsOf pointersOf leads homeOf slotsLeadingTo wordsLeadingTo outside uncountedInto storedCount countsExact slotsLead wordsLead pagesHeld filled placed newestOwn oldestOwn sizeIn nameIn entryIn climb
 broken = refl
 
 -- so the audit rejects regions in a ring; what set pointer answers there is in Cases
 rejected : sound ring ≡ false
-unfolding frameCount widthAt slotAt kindCount sizeOf markAt nameAt nameOf entryOf parentAt levelAt newestAt oldestAt countAt pageCount ownerAt takenAt isFree walk headersTo headersOn entries listedRegions listedKinds listedFrames listedHeld listedFree metOn begin slotsOf pointersOf leads homeOf slotsLeadingTo wordsLeadingTo outside uncountedInto storedCount countsExact slotsLead wordsLead pagesHeld filled placed newestOwn oldestOwn sizeIn nameIn entryIn climb sound
+unfolding frameCount widthAt slotAt kindCount sizeOf markAt nameAt nameOf entryOf parentAt levelAt newestAt oldestAt countAt countIn added pageCount ownerAt takenAt isFree walk headersTo headersOn entries listedRegions listedKinds listedFrames listedHeld listedFree metOn begin slotsOf pointersOf leads homeOf slotsLeadingTo wordsLeadingTo outside uncountedInto storedCount countsExact slotsLead wordsLead pagesHeld filled placed newestOwn oldestOwn sizeIn nameIn entryIn climb sound
 rejected = refl
 
 -- what the accepted one lists
@@ -44,7 +44,7 @@ met = refl
 
 -- of regions 1 and 5: stored count, pointers in uncounted frames, outside pointers
 counted : map (λ r. storedCount small r ∷ uncountedInto (begin small) small r ∷ outside (begin small) small r ∷ []) (1 ∷ 5 ∷ []) ≡ (2 ∷ 0 ∷ 2 ∷ []) ∷ (2 ∷ 1 ∷ 3 ∷ []) ∷ []
-unfolding frameCount widthAt slotAt kindCount sizeOf markAt nameAt nameOf entryOf parentAt countAt pageCount ownerAt takenAt isFree walk headersTo headersOn entries listedRegions listedKinds listedFrames listedHeld listedFree metOn begin slotsOf pointersOf homeOf slotsLeadingTo wordsLeadingTo outside uncountedInto storedCount sizeIn nameIn entryIn
+unfolding frameCount widthAt slotAt kindCount sizeOf markAt nameAt nameOf entryOf parentAt countAt countIn added pageCount ownerAt takenAt isFree walk headersTo headersOn entries listedRegions listedKinds listedFrames listedHeld listedFree metOn begin slotsOf pointersOf homeOf slotsLeadingTo wordsLeadingTo outside uncountedInto storedCount sizeIn nameIn entryIn
 counted = refl
 
 -- of `holes`, in which region 5, at entry 2, has no newest page and region 1's, page 4, has room: an object of kind 1 goes to page 1 for region 5, the lower of the two that are free, and to page 4 for
@@ -60,5 +60,5 @@ unfolding kindCount sizeOf newestAt oldestAt pageCount ownerAt takenAt firstFree
 lowest = refl
 
 still-accepted : sound taken ≡ true
-unfolding frameCount widthAt slotAt kindCount sizeOf markAt nameAt nameOf entryOf parentAt levelAt newestAt oldestAt countAt pageCount ownerAt takenAt isFree walk headersTo headersOn entries listedRegions listedKinds listedFrames listedHeld listedFree metOn begin slotsOf pointersOf leads homeOf slotsLeadingTo wordsLeadingTo outside uncountedInto storedCount countsExact slotsLead wordsLead pagesHeld filled placed newestOwn oldestOwn sizeIn nameIn entryIn climb sound firstFree firstFreeIn topFrame putSlot withPage withTaken slot size roomy roomyIn pageFor allocated fillSlot
+unfolding frameCount widthAt slotAt kindCount sizeOf markAt nameAt nameOf entryOf parentAt levelAt newestAt oldestAt countAt countIn added pageCount ownerAt takenAt isFree walk headersTo headersOn entries listedRegions listedKinds listedFrames listedHeld listedFree metOn begin slotsOf pointersOf leads homeOf slotsLeadingTo wordsLeadingTo outside uncountedInto storedCount countsExact slotsLead wordsLead pagesHeld filled placed newestOwn oldestOwn sizeIn nameIn entryIn climb sound firstFree firstFreeIn topFrame putSlot withPage withTaken slot size roomy roomyIn pageFor allocated fillSlot
 still-accepted = refl

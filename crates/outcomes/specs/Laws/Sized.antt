@@ -11,8 +11,7 @@ use Rattle.frames.specs.Frames.{putSlot, pushed, popped, raised}
 use Rattle.kinds.specs.declared.Kinds.{Kinds}
 use Rattle.kinds.specs.Kinds.{withKind}
 use Rattle.regions.specs.declared.Regions.{Regions}
-use Rattle.regions.specs.Regions.{countAt, withRegion, withoutRegions, withPage, recount}
-use Rattle.regions.specs.Laws.Added.{count-new}
+use Rattle.regions.specs.Regions.{withRegion, withoutRegions, withPage, recount}
 use Rattle.regions.specs.Laws.Recount.{recount-beside, recount-length}
 use Rattle.regions.specs.Laws.Removed.{cleared-length}
 use Rattle.pages.specs.declared.Pages.{Pages}
@@ -52,17 +51,14 @@ module _ (r : Regions) (h : RegionsSized r) where
     names = length-set (r .names) i (r .given + 1) ∙ h .names;
     parents = length-set (r .parents) i t ∙ h .parents;
     levels = length-set (r .levels) i l ∙ h .levels;
-    counts = length-set (r .counts) i 0 ∙ h .counts;
+    shares = length-sets (r .shares) (4 * i) (replicate 4 0) ∙ h .shares;
     newest = length-set (r .newest) i 0 ∙ h .newest;
     oldest = length-set (r .oldest) i 0 ∙ h .oldest;
   }
 
-  pub none-counted : (i t l : ℕ) → i < 64 → countAt (withRegion r i t l) i ≡ 0
-  none-counted i t l b = count-new r i t l (omega (arith, h .counts))
-
   pub without-regions : (es : List ℕ) → RegionsSized (withoutRegions r es)
   unfolding withoutRegions
-  without-regions es = record { names = cleared-length (r .names) es ∙ h .names; parents = h .parents; levels = h .levels; counts = h .counts; newest = h .newest; oldest = h .oldest }
+  without-regions es = record { names = cleared-length (r .names) es ∙ h .names; parents = h .parents; levels = h .levels; shares = h .shares; newest = h .newest; oldest = h .oldest }
 
   pub with-page : (i p v : ℕ) → RegionsSized (withPage r i p v)
   unfolding withPage
@@ -70,19 +66,19 @@ module _ (r : Regions) (h : RegionsSized r) where
     names = h .names;
     parents = h .parents;
     levels = h .levels;
-    counts = h .counts;
+    shares = h .shares;
     newest = length-set (r .newest) i p ∙ h .newest;
     oldest = length-set (r .oldest) i v ∙ h .oldest;
   }
 
-  pub recount-sized : (come gone : List ℕ) → RegionsSized (recount r come gone)
-  recount-sized come gone =
-      let b = recount-beside r come gone in
+  pub recount-sized : (f : ℕ) (come gone : List ℕ) → RegionsSized (recount r f come gone)
+  recount-sized f come gone =
+      let b = recount-beside r f come gone in
       record {
         names = ap length (b .names) ∙ h .names;
         parents = ap length (b .parents) ∙ h .parents;
         levels = ap length (b .levels) ∙ h .levels;
-        counts = recount-length r come gone;
+        shares = recount-length r f come gone;
         newest = ap length (b .newest) ∙ h .newest;
         oldest = ap length (b .oldest) ∙ h .oldest;
       }
@@ -106,7 +102,7 @@ blank-sized n r heap = record {
     names = first;
     parents = length-replicate {A = ℕ} 64 0;
     levels = first;
-    counts = length-replicate {A = ℕ} 64 0;
+    shares = length-replicate {A = ℕ} 256 0;
     newest = length-replicate {A = ℕ} 64 0;
     oldest = length-replicate {A = ℕ} 64 0;
   };

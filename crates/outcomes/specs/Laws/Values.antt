@@ -14,7 +14,7 @@ use Rattle.lists.specs.Laws.All.{all-at}
 use Rattle.kinds.specs.declared.Kinds.{Kinds}
 use Rattle.kinds.specs.Kinds.{sizeOf, markAt}
 use Rattle.regions.specs.declared.Regions.{Regions}
-use Rattle.regions.specs.Regions.{nameAt, nameOf, parentAt, liveCount, subregionsOf, countAt, oldestAt, liveIn, nameIn, subregionsIn}
+use Rattle.regions.specs.Regions.{nameAt, nameOf, parentAt, liveCount, subregionsOf, oldestAt, liveIn, nameIn, subregionsIn}
 use Rattle.pages.specs.declared.Pages.{Pages}
 use Rattle.pages.specs.Pages.{ownerAt, takenAt, pagesOf, pagesIn}
 use Rattle.objects.specs.Objects.{kindOf, wordAt, walk, headersTo, headersOn, freeWords, freeWordsOn}
@@ -84,10 +84,6 @@ module _ (g : Regions) (h : RegionsBounded g) where
   pub name-below : (t : ℕ) → nameOf g t < 4294967296
   unfolding nameOf nameIn
   name-below t = all-at (λ x. x < 4294967296) (0 ∷ g .names) t 0 (omega arith, h .names) (omega arith)
-
-  pub count-below : (i : ℕ) → countAt g i < 4294967296
-  unfolding countAt
-  count-below i = below-at 4294967296 (g .counts) i (omega arith) (h .counts)
 
   pub oldest-below : (i : ℕ) → oldestAt g i < 4294967296
   unfolding oldestAt

@@ -22,6 +22,7 @@ use Rattle.kinds.specs.declared.Kinds.{Kinds}
 use Rattle.kinds.specs.Kinds.{kindCount, sizeOf, wrongMarks}
 use Rattle.regions.specs.declared.Regions.{Regions}
 use Rattle.regions.specs.Regions.{entryOf, tagOf, isLive, newestAt, oldestAt, levelAt}
+use Rattle.regions.specs.Laws.Recount.{total-below}
 use Rattle.pages.specs.declared.Pages.{Pages}
 use Rattle.pages.specs.Pages.{pageCount, isFree, takenAt, pageOf, wordOf, pagesOf}
 use Rattle.outcomes.specs.Store.{Store, frames, kinds, regions, pages, slot, size, roomy, roomyIn}
@@ -33,7 +34,7 @@ use Rattle.promises.specs.Laws.Sizes.{keeps-size}
 use Rattle.promises.specs.Laws.Passed.{passed}
 use Rattle.outcomes.specs.Laws.Bounded.{below-at, all-sets, pick-below, slot-below, put-slot, push-frame, pop-frame, raise-mark, with-kind, with-region, without-regions, with-page, recount-bounded, with-taken, free-pages}
 use Rattle.outcomes.specs.Laws.PageFor.{NewestOrFree, newest-or-free}
-use Rattle.outcomes.specs.Laws.Values.{size-most, outside-below, word-below, kind-below, live-below, subregions-below, pages-below, name-below, count-below, oldest-below}
+use Rattle.outcomes.specs.Laws.Values.{size-most, outside-below, word-below, kind-below, live-below, subregions-below, pages-below, name-below, oldest-below}
 
 zeros : Bits32 (gives [] .values)
 zeros = (omega arith, (omega arith, (omega arith, (omega arith, tt))))
@@ -77,26 +78,26 @@ module _ (S : Store) (h : Bounded S) where
   unfolding writeWord
   written v w x b = with-heap S h _ (all-set (λ x. x < 4294967296) (S .heap) (v + w) x (h .heap) b)
 
-  recounted-bounded : (come gone : List ℕ) → Bounded (recounted S come gone)
+  recounted-bounded : (f : ℕ) (come gone : List ℕ) → Bounded (recounted S f come gone)
   unfolding recounted
-  recounted-bounded come gone = with-regions S h _ (recount-bounded (regions S) (h .inRegions) come gone)
+  recounted-bounded f come gone = with-regions S h _ (recount-bounded (regions S) (h .inRegions) f come gone)
 
-  popped-bounded : Bounded (popFrame S)
+  popped-bounded : (f : ℕ) → Bounded (popFrame S f)
   unfolding popFrame
-  popped-bounded = with-frames _ (recounted-bounded [] _) _ (pop-frame (frames S) (h .inFrames))
+  popped-bounded f = with-frames _ (recounted-bounded f [] _) _ (pop-frame (frames S) (h .inFrames))
 
-  deleted-bounded : (rs : List ℕ) → Bounded (deleted S rs)
+  deleted-bounded : (rs : List ℕ) (f : ℕ) → Bounded (deleted S rs f)
   unfolding deleted
-  deleted-bounded rs =
+  deleted-bounded rs f =
       let ts = map (tagOf (regions S)) rs in
-      let T = recounted S (newlyCounted S) (outgoing S ts) in
-      let m = recounted-bounded (newlyCounted S) (outgoing S ts) in
+      let T = recounted S f (newlyCounted S) (outgoing S ts) in
+      let m = recounted-bounded f (newlyCounted S) (outgoing S ts) in
       let g = with-regions T m _ (without-regions (regions T) (m .inRegions) (map (entryOf (regions S)) rs)) in
       with-frames _ (with-pages _ g _ (free-pages (pages S) (h .inPages) ts)) _ (raise-mark (frames S) (h .inFrames))
 
-pointed-bounded : (S : Store) → Bounded S → (v w x : ℕ) → x < 4294967296 → Bounded (pointed S v w x)
+pointed-bounded : (S : Store) → Bounded S → (v w x f : ℕ) → x < 4294967296 → Bounded (pointed S v w x f)
 unfolding pointed
-pointed-bounded S h v w x b = written _ (recounted-bounded S h _ _) v w x b
+pointed-bounded S h v w x f b = written _ (recounted-bounded S h f _ _) v w x b
 
 entry-below : (S : Store) (r : ℕ) → dead S r ≡ false → entryOf (regions S) r < 64
 unfolding dead isLive
@@ -205,8 +206,8 @@ accepted-keeps (push n) S a T x h e q =
     let d = leb-false 32 ((frames S) .standing) (t .1 .1 .0) in
     let f = push-frame (frames S) (h .inFrames) n d b in
     both-of a _ T _ q (with-frames S h _ f) (one ((frames S) .standing + 1) (omega arith))
-accepted-keeps dropFrame S a T x h e q = both-of a _ T _ q (popped-bounded S h) (one (topFrame (frames S)) (top-below S h))
-accepted-keeps (handBack s b) S a T x h e q = both-of a _ T _ q (filled (popFrame S) (popped-bounded S h) b (slot S s) (slot-small S h s)) (one (topFrame (frames S)) (top-below S h))
+accepted-keeps (dropFrame f) S a T x h e q = both-of a _ T _ q (popped-bounded S h f) (one (topFrame (frames S)) (top-below S h))
+accepted-keeps (handBack s b f) S a T x h e q = both-of a _ T _ q (filled (popFrame S f) (popped-bounded S h f) b (slot S s) (slot-small S h s)) (one (topFrame (frames S)) (top-below S h))
 accepted-keeps (allocate s r k) S a T x h e q =
     let t = passed S (allocate s r k) e in
     let i = entry-below S r (t .1 .1 .1 .0) in
@@ -217,7 +218,7 @@ accepted-keeps (copy s t) S a T x h e q = both-of a _ T _ q (filled S h t _ (slo
 accepted-keeps (fetch b s) S a T x h e q = both-of a _ T _ q (filled S h s _ (slot-below (frames S) (h .inFrames) _ b)) zeros
 accepted-keeps (clear s) S a T x h e q = both-of a _ T _ q (filled S h s 0 (omega arith)) zeros
 accepted-keeps (load s w t) S a T x h e q = both-of a _ T _ q (filled S h t _ (word-below S h (slot S s) w)) zeros
-accepted-keeps (setPointer s w v) S a T x h e q = both-of a _ T _ q (pointed-bounded S h (slot S s) w (slot S v) (slot-small S h v)) zeros
+accepted-keeps (setPointer s w v f) S a T x h e q = both-of a _ T _ q (pointed-bounded S h (slot S s) w (slot S v) f (slot-small S h v)) zeros
 accepted-keeps (put s w y) S a T x h e q = both-of a _ T _ q (written S h (slot S s) w y (x s w y refl)) zeros
 accepted-keeps (get s w) S a T x h e q = both-of a _ T _ q h (one _ (word-below S h (slot S s) w))
 accepted-keeps (view s) S a T x h e q = both-of a _ T _ q h zeros
@@ -225,17 +226,17 @@ accepted-keeps (same s t) S a T x h e q = both-of a _ T _ q h (one _ (bit-below 
 accepted-keeps (about s) S a T x h e q = both-of a _ T _ q h (four-small _ _ 0 0 (name-below (regions S) (h .inRegions) _) (kind-below S h (slot S s)) (omega arith) (omega arith))
 accepted-keeps (report r) S a T x h e q =
     let t = tagOf (regions S) r in
-    both-of a _ T _ q h (four-small _ _ _ _ (count-below (regions S) (h .inRegions) _) (outside-below S _) (omega (arith, pages-below (pages S) t)) (omega (arith, subregions-below (regions S) t)))
+    both-of a _ T _ q h (four-small _ _ _ _ (total-below (regions S) _) (outside-below S _) (omega (arith, pages-below (pages S) t)) (omega (arith, subregions-below (regions S) t)))
 accepted-keeps totals S a T x h e q =
     both-of a _ T _ q h (four-small _ _ _ _ (omega (arith, pages-below (pages S) 0)) (omega (arith, live-below (regions S))) (h .inFrames .standing) (h .inFrames .counted))
 accepted-keeps audit S a T x h e q = both-of a _ T _ q h (one _ (bit-below (sound S)))
-accepted-keeps (delete r) S a T x h e q = both-of a _ T _ q (deleted-bounded S h (r ∷ [])) (one _ (omega (arith, pages-below (pages S) (tagOf (regions S) r))))
-accepted-keeps (deleteAll rs) S a T x h e q =
-    let t = passed S (deleteAll rs) e in
-    let m = neither (eqb (length rs) 0 || ltb 16 (length rs)) (repeats rs) (t .1 .0) in
+accepted-keeps (delete r f) S a T x h e q = both-of a _ T _ q (deleted-bounded S h (r ∷ []) f) (one _ (omega (arith, pages-below (pages S) (tagOf (regions S) r))))
+accepted-keeps (deleteAll rs f) S a T x h e q =
+    let t = passed S (deleteAll rs f) e in
+    let m = neither (eqb (length rs) 0 || ltb 16 (length rs)) (repeats rs) (t .1 .1 .0) in
     let n = neither (eqb (length rs) 0) (ltb 16 (length rs)) (m .0) in
     let most = sum-most (λ r. pagesOf (pages S) (tagOf (regions S) r)) 256 rs (all-each _ (λ r. pages-below (pages S) (tagOf (regions S) r)) rs) in
-    both-of a _ T _ q (deleted-bounded S h rs) (one _ (omega (arith, most, ltb-false 16 (length rs) (n .1))))
+    both-of a _ T _ q (deleted-bounded S h rs f) (one _ (omega (arith, most, ltb-false 16 (length rs) (n .1))))
 accepted-keeps (ask y) S a T x h e q = both-of a _ T _ q h (query-below S h y)
 
 keeps-bounds : (c : Call) (S : Store) (a : Answer) (T : Store) → Sent c → Bounded S → Outcome c S a T → Bounded T × Bits32 (a .values)

@@ -40,26 +40,26 @@ module _ (S : Store) (h : Sized S) where
   unfolding writeWord
   written v w x = with-heap S h _
 
-  recounted-sized : (come gone : List ℕ) → Sized (recounted S come gone)
+  recounted-sized : (f : ℕ) (come gone : List ℕ) → Sized (recounted S f come gone)
   unfolding recounted
-  recounted-sized come gone = with-regions S h _ (recount-sized (regions S) (h .inRegions) come gone)
+  recounted-sized f come gone = with-regions S h _ (recount-sized (regions S) (h .inRegions) f come gone)
 
-  popped-sized : Sized (popFrame S)
+  popped-sized : (f : ℕ) → Sized (popFrame S f)
   unfolding popFrame
-  popped-sized = with-frames _ (recounted-sized [] _) _ (pop-frame (frames S) (h .inFrames))
+  popped-sized f = with-frames _ (recounted-sized f [] _) _ (pop-frame (frames S) (h .inFrames))
 
-  deleted-sized : (rs : List ℕ) → Sized (deleted S rs)
+  deleted-sized : (rs : List ℕ) (f : ℕ) → Sized (deleted S rs f)
   unfolding deleted
-  deleted-sized rs =
+  deleted-sized rs f =
       let ts = map (tagOf (regions S)) rs in
-      let T = recounted S (newlyCounted S) (outgoing S ts) in
-      let m = recounted-sized (newlyCounted S) (outgoing S ts) in
+      let T = recounted S f (newlyCounted S) (outgoing S ts) in
+      let m = recounted-sized f (newlyCounted S) (outgoing S ts) in
       let g = with-regions T m _ (without-regions (regions T) (m .inRegions) (map (entryOf (regions S)) rs)) in
       with-frames _ (with-pages _ g _ (free-pages (pages S) (h .inPages) ts)) _ (raise-mark (frames S) (h .inFrames))
 
-pointed-sized : (S : Store) → Sized S → (v w x : ℕ) → Sized (pointed S v w x)
+pointed-sized : (S : Store) → Sized S → (v w x f : ℕ) → Sized (pointed S v w x f)
 unfolding pointed
-pointed-sized S h v w x = written _ (recounted-sized S h _ _) v w x
+pointed-sized S h v w x f = written _ (recounted-sized S h f _ _) v w x
 
 allocated-sized : (S : Store) (s i k j : ℕ) → Sized S → Sized (allocated S s i k j)
 unfolding allocated
@@ -76,15 +76,15 @@ accepted-sized (declare ms) S a T h q =
 accepted-sized newRegion S a T h q = subst⁻¹ Sized (q .1) (with-regions S h _ (with-region (regions S) (h .inRegions) _ _ _))
 accepted-sized (subregion r) S a T h q = subst⁻¹ Sized (q .1) (with-regions S h _ (with-region (regions S) (h .inRegions) _ _ _))
 accepted-sized (push n) S a T h q = subst⁻¹ Sized (q .1) (with-frames S h _ (push-frame (frames S) (h .inFrames) n))
-accepted-sized dropFrame S a T h q = subst⁻¹ Sized (q .1) (popped-sized S h)
-accepted-sized (handBack s b) S a T h q = subst⁻¹ Sized (q .1) (filled _ (popped-sized S h) _ _)
+accepted-sized (dropFrame f) S a T h q = subst⁻¹ Sized (q .1) (popped-sized S h f)
+accepted-sized (handBack s b f) S a T h q = subst⁻¹ Sized (q .1) (filled _ (popped-sized S h f) _ _)
 accepted-sized (allocate s r k) S a T h q = subst⁻¹ Sized (q .1) (allocated-sized S _ _ _ _ h)
 accepted-sized (first s r) S a T h q = subst⁻¹ Sized (q .1) (filled S h _ _)
 accepted-sized (copy s t) S a T h q = subst⁻¹ Sized (q .1) (filled S h _ _)
 accepted-sized (fetch b s) S a T h q = subst⁻¹ Sized (q .1) (filled S h _ _)
 accepted-sized (clear s) S a T h q = subst⁻¹ Sized (q .1) (filled S h _ _)
 accepted-sized (load s w t) S a T h q = subst⁻¹ Sized (q .1) (filled S h _ _)
-accepted-sized (setPointer s w v) S a T h q = subst⁻¹ Sized (q .1) (pointed-sized S h _ _ _)
+accepted-sized (setPointer s w v f) S a T h q = subst⁻¹ Sized (q .1) (pointed-sized S h _ _ _ f)
 accepted-sized (put s w x) S a T h q = subst⁻¹ Sized (q .1) (written S h _ _ _)
 accepted-sized (get s w) S a T h q = subst⁻¹ Sized (q .1) h
 accepted-sized (view s) S a T h q = subst⁻¹ Sized (q .1) h
@@ -93,8 +93,8 @@ accepted-sized (about s) S a T h q = subst⁻¹ Sized (q .1) h
 accepted-sized (report r) S a T h q = subst⁻¹ Sized (q .1) h
 accepted-sized totals S a T h q = subst⁻¹ Sized (q .1) h
 accepted-sized audit S a T h q = subst⁻¹ Sized (q .1) h
-accepted-sized (delete r) S a T h q = subst⁻¹ Sized (q .1) (deleted-sized S h (r ∷ []))
-accepted-sized (deleteAll rs) S a T h q = subst⁻¹ Sized (q .1) (deleted-sized S h rs)
+accepted-sized (delete r f) S a T h q = subst⁻¹ Sized (q .1) (deleted-sized S h (r ∷ []) f)
+accepted-sized (deleteAll rs f) S a T h q = subst⁻¹ Sized (q .1) (deleted-sized S h rs f)
 accepted-sized (ask x) S a T h q = subst⁻¹ Sized (q .1) h
 
 pub keeps-size : (c : Call) (S : Store) (a : Answer) (T : Store) → Sized S → Outcome c S a T → Sized T

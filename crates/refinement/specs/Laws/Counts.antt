@@ -29,11 +29,11 @@ use Rattle.refinement.specs.Represents.{spot, Alive, wordsIn, FramesAgre
 use Rattle.refinement.specs.Laws.Tags.{entry-in, tag-for, for-same, live-for}
 use Rattle.refinement.specs.Laws.Reads.{frame-count, home-named, owner-is}
 
--- the count of live region r becomes n, if n is what was kept with what came and without what went
-pub count-is : {L : Model} {sp : List ℕ} {g : Regions} (a : RegionsAgree L sp g) (r : ℕ) → livesIn L r ≡ true → (come gone : List ℕ) (n : ℕ)
-    → n + times (tagOf g r) gone ≡ countAt g (entryOf g r) + times (tagOf g r) come → n < 4294967296 → countAt (recount g come gone) (entryOf g r) ≡ n
+-- the count of live region r becomes n, by whichever filler, if n is what was kept with what came and without what went
+pub count-is : {L : Model} {sp : List ℕ} {g : Regions} (a : RegionsAgree L sp g) (r f : ℕ) → f < 4 → livesIn L r ≡ true → (come gone : List ℕ) (n : ℕ)
+    → n + times (tagOf g r) gone ≡ countAt g (entryOf g r) + times (tagOf g r) come → n < 4294967296 → countAt (recount g f come gone) (entryOf g r) ≡ n
 unfolding tagOf
-count-is {g = g} a r l come gone n e h = recount-exact g come gone (entryOf g r) n (entry-in a r l) (rw (add-one (entryOf g r)) at e) h
+count-is {g = g} a r f k l come gone n e h = recount-exact g f come gone k (entryOf g r) n (entry-in a r l) (rw (add-one (entryOf g r)) at e) h
 
 -- a word that is no data, of an object of a live region, is null or leads to such an object
 pub word-known : (L : Model) → Valid L → (q w : ℕ) → Alive L q → w < length (wordsIn L q) → eqb (getD (marks (L .kinds) ((object (L .objects) q) .kind)) w 0) 0 ≡ false → Known L (getD (wordsIn L q) w 0)

@@ -17,9 +17,10 @@ use Rattle.lists.specs.Laws.Sums.{sum-same, sum-map, sum-keep, sum-joined, sum-
 use Rattle.lists.specs.Laws.Finds.{getD-map-in, times-keep, any-false}
 use Rattle.lists.specs.Laws.UpTo.{all-from, sum-below, sum-part}
 use Rattle.model.specs.Model.{Model, Region, Answer, delete, deleteAll, gives, live, region, marks, livesIn, homeIn, parentIn, topPlace, into, freeInto, inFrames, outside, stored}
-use Rattle.model.specs.Calls.{refusal, reply, accepted, others, heldAfter, removeRegions}
+use Rattle.model.specs.Calls.{checks, refusal, reply, accepted, others, heldAfter, removeRegions}
 use Rattle.model.specs.Valid.{Valid}
 use Rattle.model.specs.Moves.{newly, fromRegion, fromRegions}
+use Rattle.model.specs.Laws.Passed.{passed, filler-one}
 use Rattle.model.specs.Laws.Regions.{live-others, region-others, not-removed, lived-before}
 use Rattle.model.specs.Laws.Removable.{Removable, removable-one, removable-all, parent-away}
 use Rattle.model.specs.Laws.Counts.{outside-stored, remove-stored}
@@ -260,11 +261,11 @@ module _ {L : Model} {sp : List ℕ} {ids : ℕ → List ℕ} (S : Store) (v : V
       parts : (all low rest below top low₂ new : ℕ) → all ≡ low + rest → all ≡ below + top → below ≡ low₂ + new → low₂ ≡ low → new ≤ rest
       parts all low rest below top low₂ new a b c d = omega arith
 
-  count-left : (rs : List ℕ) → Removable L rs → among q rs ≡ false → outside L q ≤ 16640
-      → countAt (recount (regions S) (newlyCounted S) (outgoing S (map (tagOf (regions S)) rs))) (entryOf (regions S) q) ≡ stored (removeRegions L rs) q
-  count-left rs m n small =
+  count-left : (f : ℕ) → f < 4 → (rs : List ℕ) → Removable L rs → among q rs ≡ false → outside L q ≤ 16640
+      → countAt (recount (regions S) f (newlyCounted S) (outgoing S (map (tagOf (regions S)) rs))) (entryOf (regions S) q) ≡ stored (removeRegions L rs) q
+  count-left f k rs m n small =
       let e = remove-stored L v rs m q n in
-      count-is (h .onRegions) q l (newlyCounted S) (outgoing S (map (tagOf (regions S)) rs)) (stored (removeRegions L rs) q)
+      count-is (h .onRegions) q f k l (newlyCounted S) (outgoing S (map (tagOf (regions S)) rs)) (stored (removeRegions L rs) q)
       (ap (λ n. stored (removeRegions L rs) q + n) (gone-are rs (m .live) n) ∙ e ∙ sym (ap₂ _+_ (h .counts q l) come-are))
       (bound _ _ _ _ _ _ e come-most (outside-stored L q) small)
     where
@@ -276,13 +277,13 @@ abbrev without : Store → Regions → List ℕ → (ℕ → ℕ) → (ℕ → �
 without S g rs e t = withFrames (withPages (withRegions S (withoutRegions g (map e rs))) (freed (pages S) (map t rs))) (raised (frames S))
 
 -- regions that may go together: what is left of the store represents what is left of the model
-pub deleted-represents : (L : Model) (sp : List ℕ) (ids : ℕ → List ℕ) (S : Store) → Valid L → Represents L sp ids S → (rs : List ℕ) → Removable L rs → ((q : ℕ) → outside L q ≤ 16640)
-    → Represents (removeRegions L rs) sp ids (deleted S rs)
+pub deleted-represents : (L : Model) (sp : List ℕ) (ids : ℕ → List ℕ) (S : Store) → Valid L → Represents L sp ids S → (f : ℕ) → f < 4 → (rs : List ℕ) → Removable L rs → ((q : ℕ) → outside L q ≤ 16640)
+    → Represents (removeRegions L rs) sp ids (deleted S rs f)
 unfolding removeRegions deleted recounted
-deleted-represents L sp ids S v h rs m small =
+deleted-represents L sp ids S v h f few rs m small =
     let gone = outgoing S (map (tagOf (regions S)) rs) in
-    let now = recount (regions S) (newlyCounted S) gone in
-    let b = recount-beside (regions S) (newlyCounted S) gone in
+    let now = recount (regions S) f (newlyCounted S) gone in
+    let b = recount-beside (regions S) f (newlyCounted S) gone in
     let g = regions-kept L (L .kinds) (L .frames) (L .counted) (L .objects) b sp (h .onRegions) in
     let p = pages-kept L (L .kinds) (L .frames) (L .counted) (L .objects) b (pages S) (length (S .heap)) (h .onPages) in
     let o = objects-kept L (L .frames) (L .counted) b (h .onObjects) in
@@ -296,19 +297,19 @@ deleted-represents L sp ids S v h rs m small =
       onObjects = objects-left v g rs m p o refl;
       counts = λ q k.
           let n = other v g rs m q k in
-          count-stays now (map (entryOf now) rs) _ ∙ ap (countAt now) (entry-kept v g rs m q k ∙ same-entry b q) ∙ count-left S v h q (n .0) rs m (n .1) (small q);
+          count-stays now (map (entryOf now) rs) _ ∙ ap (countAt now) (entry-kept v g rs m q k ∙ same-entry b q) ∙ count-left S v h q (n .0) f few rs m (n .1) (small q);
     })
 
-pub delete-all-step : (L : Model) (sp : List ℕ) (ids : ℕ → List ℕ) (S : Store) → Valid L → Represents L sp ids S → (a : Answer) (T : Store) (rs : List ℕ) → ((q : ℕ) → outside L q ≤ 16640)
-    → refusal L (deleteAll rs) ≡ 0 → Accepted (deleteAll rs) S a T → (a ≡ reply L (deleteAll rs)) × Represents (accepted L (deleteAll rs)) sp ids T
-unfolding Accepted reply accepted
-delete-all-step L sp ids S v h a T rs small e (x, y) =
-    let m = removable-all L rs e in
-    (x ∙ ap (λ n. gives (n ∷ [])) (sum-same _ _ rs (all-map (held-are (h .onRegions) (h .onPages)) rs (m .live))), rw y (deleted-represents L sp ids S v h rs m small))
+pub delete-all-step : (L : Model) (sp : List ℕ) (ids : ℕ → List ℕ) (S : Store) → Valid L → Represents L sp ids S → (a : Answer) (T : Store) (rs : List ℕ) (f : ℕ) → ((q : ℕ) → outside L q ≤ 16640)
+    → refusal L (deleteAll rs f) ≡ 0 → Accepted (deleteAll rs f) S a T → (a ≡ reply L (deleteAll rs f)) × Represents (accepted L (deleteAll rs f)) sp ids T
+unfolding checks Accepted reply accepted
+delete-all-step L sp ids S v h a T rs f small e (x, y) =
+    let m = removable-all L rs f e in
+    (x ∙ ap (λ n. gives (n ∷ [])) (sum-same _ _ rs (all-map (held-are (h .onRegions) (h .onPages)) rs (m .live))), rw y (deleted-represents L sp ids S v h f (filler-one f (passed L (deleteAll rs f) e .0)) rs m small))
 
-pub delete-step : (L : Model) (sp : List ℕ) (ids : ℕ → List ℕ) (S : Store) → Valid L → Represents L sp ids S → (a : Answer) (T : Store) (r : ℕ) → ((q : ℕ) → outside L q ≤ 16640)
-    → refusal L (delete r) ≡ 0 → Accepted (delete r) S a T → (a ≡ reply L (delete r)) × Represents (accepted L (delete r)) sp ids T
-unfolding Accepted reply accepted
-delete-step L sp ids S v h a T r small e (x, y) =
-    let m = removable-one L r e in
-    (x ∙ rw (held-are (h .onRegions) (h .onPages) r (m .live .0)), rw y (deleted-represents L sp ids S v h (r ∷ []) m small))
+pub delete-step : (L : Model) (sp : List ℕ) (ids : ℕ → List ℕ) (S : Store) → Valid L → Represents L sp ids S → (a : Answer) (T : Store) (r f : ℕ) → ((q : ℕ) → outside L q ≤ 16640)
+    → refusal L (delete r f) ≡ 0 → Accepted (delete r f) S a T → (a ≡ reply L (delete r f)) × Represents (accepted L (delete r f)) sp ids T
+unfolding checks Accepted reply accepted
+delete-step L sp ids S v h a T r f small e (x, y) =
+    let m = removable-one L r f e in
+    (x ∙ rw (held-are (h .onRegions) (h .onPages) r (m .live .0)), rw y (deleted-represents L sp ids S v h f (filler-one f (passed L (delete r f) e .0)) (r ∷ []) m small))

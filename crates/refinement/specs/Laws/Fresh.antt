@@ -19,7 +19,7 @@ use Rattle.frames.specs.Frames.{widthAt, slotAt}
 use Rattle.kinds.specs.declared.Kinds.{Kinds}
 use Rattle.kinds.specs.Kinds.{kindCount, sizeOf, sizeIn}
 use Rattle.regions.specs.declared.Regions.{Regions}
-use Rattle.regions.specs.Regions.{nameAt, entryOf, tagOf, parentAt, levelAt, newestAt, oldestAt, countAt, entryIn}
+use Rattle.regions.specs.Regions.{nameAt, entryOf, tagOf, parentAt, levelAt, newestAt, oldestAt, countAt, countIn, added, entryIn}
 use Rattle.pages.specs.declared.Pages.{Pages}
 use Rattle.pages.specs.Pages.{ownerAt}
 use Rattle.lists.specs.Laws.Ticks.{blank-at}
@@ -57,7 +57,7 @@ module _ (n : ℕ) where
   no-kind (suc m) = rw (lt-ltb 0 (suc m) (omega arith), lt-leb (suc m) 0 (omega arith))
 
   pub fresh-represents : 1 ≤ n → n ≤ 256 → Represents (fresh n) [] (λ j. []) (store (blank n 1) (replicate (64 * n) 0))
-  unfolding blank widthAt slotAt nameAt entryOf tagOf parentAt levelAt newestAt oldestAt countAt stored inWords inFrames g k entryIn
+  unfolding blank widthAt slotAt nameAt entryOf tagOf parentAt levelAt newestAt oldestAt countAt countIn added stored inWords inFrames g k entryIn
   fresh-represents low high = record {
     onFrames = record { standing = refl; counted = refl; widths = λ i h. absurd (omega arith); slots = λ i s h l. absurd (omega arith) };
     onKinds = record { declared = refl; sizes = no-kind; few = λ m h. absurd (omega arith); marksAgree = λ m w h. absurd (unmarked m w h) };

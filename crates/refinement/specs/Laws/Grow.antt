@@ -29,14 +29,13 @@ use Rattle.kinds.specs.declared.Kinds.{Kinds}
 use Rattle.kinds.specs.Kinds.{kindCount, sizeOf, markAt, withKind, sizeIn}
 use Rattle.regions.specs.declared.Regions.{Regions}
 use Rattle.regions.specs.Regions.{nameAt, entryOf, tagOf, parentAt, levelAt, newestAt, oldestAt, countAt, unused, withRegion}
-use Rattle.regions.specs.Laws.Added.{name-new, name-old, entry-old, entry-new, count-old}
+use Rattle.regions.specs.Laws.Added.{name-new, name-old, entry-old, entry-new, count-new, count-old}
 use Rattle.regions.specs.Laws.Recount.{beside-same}
 use Rattle.pages.specs.declared.Pages.{Pages}
 use Rattle.pages.specs.Pages.{ownerAt}
 use Rattle.outcomes.specs.Store.{Store, kinds, regions, pages}
 use Rattle.outcomes.specs.Shape.{Sized, KindsSized, RegionsSized}
 use Rattle.outcomes.specs.Outcome.{Accepted, withRegions}
-use Rattle.outcomes.specs.Laws.Sized.{none-counted}
 use Rattle.refinement.specs.Represents.{tagFor, KindsAgree, EntryAgrees, RegionsAgree, RoomAgrees, PagesAgree, Alive, idsIn, ObjectsAgree, Represents, Owned}
 use Rattle.refinement.specs.Laws.Tags.{Named, live-named, entry-name, entry-live, live-for, tag-for, parent-known, unused-free}
 use Rattle.refinement.specs.Laws.Kept.{regions-kept, pages-kept, tiles-kept}
@@ -284,7 +283,7 @@ module _ (L : Model) (sp : List ℕ) (g : Regions) (v : Valid L) (a : RegionsAgr
       → (r : ℕ) → live (more L u l) r ≡ true → countAt (withRegion g i t l) (entryOf (withRegion g i t l) r) ≡ stored (addRegion L u l) r
   counts-more c r q = by-live (λ n. countAt (withRegion g i t l) (entryOf (withRegion g i t l) n) ≡ stored (addRegion L u l) n) r q
       (λ k. rw (entry-same r k, region-stored L r v u l) (count-old g i t l (entryOf g r) (entry-other r k) ∙ c r k))
-      (rw (entry-last, region-stored L (L .given + 1) v u l, stored-none L (L .given + 1) homes-past) (none-counted g sh i t l i-in))
+      (rw (entry-last, region-stored L (L .given + 1) v u l, stored-none L (L .given + 1) homes-past) (count-new g i t l))
 
 module _ (L : Model) (sp : List ℕ) (ids : ℕ → List ℕ) (S : Store) (v : Valid L) (sh : Sized S) (rep : Represents L sp ids S) where
   -- a region more, below region u or below none

@@ -16,7 +16,7 @@ use Rattle.lists.specs.Laws.Kept.{repeats-once}
 use Rattle.lists.specs.Laws.UpTo.{all-upTo, every-places}
 use Rattle.model.specs.Model.{Model, Call, declare, newRegion, subregion, push, dropFrame, handBack, allocate, first, copy, fetch, clear, load, setPointer, put, get, view, same, about, report, totals, audit, delete, deleteAll, Query, locate, ask}
 use Rattle.model.specs.Model.{region, livesIn, homeIn, parentIn, heldBy, top, beneath, slot, inSlot, slotMarks, markAt, above, allowed, inFrames, stored, outside, subregions, closed, outsideBut}
-use Rattle.model.specs.Calls.{wrongNames, checks, queryChecks, refusal, lacks, noFrame, oneFrame, null, noWord, dead, size, fits}
+use Rattle.model.specs.Calls.{wrongNames, checks, queryChecks, refusal, lacks, noFrame, oneFrame, null, noWord, noFiller, dead, size, fits}
 use Rattle.model.specs.Valid.{Valid}
 use Rattle.model.specs.Laws.Passed.{step, names-agree}
 use Rattle.model.specs.Laws.Slots.{slot-lives}
@@ -144,6 +144,10 @@ module _ {L : Model} {sp : List ℕ} {ids : ℕ → List ℕ} {S : Store} (v : V
         → pick (eqb (storeSlot S s) 0) 14 (pick (storeNoWord S s w) 15 x) ≡ pick (null L s) 14 (pick (noWord L s w) 15 y)
     word-14-15 s w k e = step _ (null L s) 14 _ _ (null-is s k) (λ n. step _ (noWord L s w) 15 x y (word-none s k w) (e n))
 
+  -- 23, of the same number
+  by-filler : (f : ℕ) {x y : ℕ} → x ≡ y → pick (noFiller f) 23 x ≡ pick (noFiller f) 23 y
+  by-filler f = ap (λ n. pick (noFiller f) 23 n)
+
   regions-4-5 : pick {A = ℕ} (full S) 4 (pick (namesOut S) 5 0) ≡ pick (leb 64 (length (L .regions))) 4 (pick (leb 1000000 (L .given)) 5 0)
   regions-4-5 = step _ (leb 64 (length (L .regions))) 4 _ _ full-is (λ n. end _ (leb 1000000 (L .given)) 5 names-out)
 
@@ -166,9 +170,9 @@ module _ {L : Model} {sp : List ℕ} {ids : ℕ → List ℕ} {S : Store} (v : V
     refusals-agree (subregion r) = rw right (step _ (dead L r) 2 _ _ (dead-is r)
         (λ l. step _ (leb 16 ((region (L .regions) r) .level)) 20 _ _ (ap (leb 16) (h .onRegions .entry r (not-false (livesIn L r) l) .level)) (λ n. regions-4-5)))
     refusals-agree (push n) = rw right (ap (λ m. pick (eqb n 0 || ltb 8 n) 8 m) (end _ (leb 32 (length (L .frames))) 7 (ap (leb 32) (h .onFrames .standing))))
-    refusals-agree dropFrame = rw right (end _ (noFrame L) 6 no-frame)
-    refusals-agree (handBack s b) = rw right (step _ (oneFrame L) 6 _ _ one-frame
-        (λ n. end _ (lacks (top L) s || lacks (beneath L) b) 9 (ap₂ _||_ (lacks-is (two-frames n) s) (lacks-beneath n b))))
+    refusals-agree (dropFrame f) = rw right (by-filler f (end _ (noFrame L) 6 no-frame))
+    refusals-agree (handBack s b f) = rw right (by-filler f (step _ (oneFrame L) 6 _ _ one-frame
+        (λ n. end _ (lacks (top L) s || lacks (beneath L) b) 9 (ap₂ _||_ (lacks-is (two-frames n) s) (lacks-beneath n b)))))
     refusals-agree (allocate s r k) = rw right (slot-6-9 s (λ m. step _ (dead L r) 2 _ _ (dead-is r) (λ l.
         step _ (eqb k 0 || ltb (length (L .kinds)) k) 12 _ _ (ap (λ n. eqb k 0 || ltb n k) (kind-count (h .onKinds) (v .kinds .many))) (λ n.
         end _ (not (fits (region (L .regions) r) (size L k)) && eqb (heldBy L 0) 0) 13
@@ -179,8 +183,8 @@ module _ {L : Model} {sp : List ℕ} {ids : ℕ → List ℕ} {S : Store} (v : V
         (λ n. end _ (lacks (beneath L) b || lacks (top L) s) 9 (ap₂ _||_ (lacks-beneath n b) (lacks-is (two-frames n) s))))
     refusals-agree (clear s) = rw right (slot-6-9 s (λ k. refl))
     refusals-agree (load s w t) = rw right (slots-6-9 s t (λ k m. word-14-15 s w k (λ n o. end _ (eqb (markAt L s w) 0) 16 (data-is s k w o))))
-    refusals-agree (setPointer s w t) = rw right (slots-6-9 s t (λ k m. word-14-15 s w k (λ n o. step _ (eqb (markAt L s w) 0) 16 _ _ (data-is s k w o) (λ d.
-        end _ (not (allowed (parentIn L) (homeIn L) ((inSlot L s) .home) (markAt L s w) (slot L t))) 17 (breaks-is s w t k m n o)))))
+    refusals-agree (setPointer s w t f) = rw right (by-filler f (slots-6-9 s t (λ k m. word-14-15 s w k (λ n o. step _ (eqb (markAt L s w) 0) 16 _ _ (data-is s k w o) (λ d.
+        end _ (not (allowed (parentIn L) (homeIn L) ((inSlot L s) .home) (markAt L s w) (slot L t))) 17 (breaks-is s w t k m n o))))))
     refusals-agree (put s w x) = get-agrees s w
     refusals-agree (get s w) = get-agrees s w
     refusals-agree (view s) = rw right (slot-6-9 s (λ k. step _ (null L s) 14 _ _ (null-is s k) (λ n. end _ (not (every (eqb 0) (slotMarks L s))) 16 (ap not (all-data s k)))))
@@ -189,12 +193,12 @@ module _ {L : Model} {sp : List ℕ} {ids : ℕ → List ℕ} {S : Store} (v : V
     refusals-agree (report r) = rw right (end _ (dead L r) 2 (dead-is r))
     refusals-agree totals = refl
     refusals-agree audit = refl
-    refusals-agree (delete r) = rw right (step _ (dead L r) 2 _ _ (dead-is r) (λ l. ap (λ n. pick (eqb r 1) 3 n)
+    refusals-agree (delete r f) = rw right (by-filler f (step _ (dead L r) 2 _ _ (dead-is r) (λ l. ap (λ n. pick (eqb r 1) 3 n)
         (step _ (not (eqb (subregions L r) 0)) 18 _ _ (ap (λ n. not (eqb n 0)) (subregions-are (h .onRegions) v r (not-false (livesIn L r) l))) (λ n.
-        end _ (not (eqb (outside L r) 0)) 19 (led-is r (not-false (livesIn L r) l))))))
-    refusals-agree (deleteAll rs) = rw right (step _ (wrongNames rs) 22 _ _ refl (λ w. names-agree (storeDead S) (dead L) dead-is rs _ _ (λ ns.
+        end _ (not (eqb (outside L r) 0)) 19 (led-is r (not-false (livesIn L r) l)))))))
+    refusals-agree (deleteAll rs f) = rw right (by-filler f (step _ (wrongNames rs) 22 _ _ refl (λ w. names-agree (storeDead S) (dead L) dead-is rs _ _ (λ ns.
         let ls = all-map (λ r n. not-false (livesIn L r) (n .0)) rs ns in
         let once = repeats-once rs (neither (eqb (length rs) 0 || ltb 16 (length rs)) (repeats rs) w .1) in
         step _ (not (closed (L .regions) rs)) 18 _ _ (ap not (closed-is v (h .onRegions) rs ls)) (λ c.
-        end _ (anyOf (λ r. not (eqb (outsideBut L rs r) 0)) rs) 19 (pointed-is v h small rs ls once)))))
+        end _ (anyOf (λ r. not (eqb (outsideBut L rs r) 0)) rs) 19 (pointed-is v h small rs ls once))))))
     refusals-agree (ask q) = query-agrees q

@@ -16,7 +16,7 @@ use Rattle.lists.specs.Laws.Sets.{getD-sets-in, getD-sets-out}
 use Rattle.model.specs.Model.{Model, Answer, livesIn, homeIn, topPlace, top, beneath, slot, inFrames, stored, gives, push, dropFrame, handBack}
 use Rattle.model.specs.Calls.{checks, refusal, reply, accepted, lacks, popFrame}
 use Rattle.model.specs.Valid.{Valid}
-use Rattle.model.specs.Laws.Passed.{passed}
+use Rattle.model.specs.Laws.Passed.{passed, filler-one}
 use Rattle.model.specs.Laws.Slots.{pop-valid}
 use Rattle.model.specs.Moves.{uncounted}
 use Rattle.model.specs.Laws.Counts.{push-stored, pop-stored, zero-uncounted, none-uncounted, top-uncounted}
@@ -113,11 +113,11 @@ module _ (L : Model) (sp : List ℕ) (ids : ℕ → List ℕ) (S : Store) (v : V
       go true e false d = rw (none-uncounted L (leb-false (topPlace (L .frames)) (L .counted) d))
       go false e b d = rw (zero-uncounted L (omega (arith, v .frames .mark, ltb-false 0 (topPlace (L .frames)) e)))
 
-  pub popped-represents : ((r : ℕ) → stored L r ≤ 16640) → Represents (popFrame L) sp ids (storePop S)
+  pub popped-represents : (f : ℕ) → f < 4 → ((r : ℕ) → stored L r ≤ 16640) → Represents (popFrame L) sp ids (storePop S f)
   unfolding popFrame storePop recounted
-  popped-represents small = framed (recount-beside (regions S) [] gone)
+  popped-represents f k small = framed (recount-beside (regions S) f [] gone)
       (pop-frames sp (L .frames) (L .counted) (frames S) (v .frames .mark) (h .onFrames))
-      (λ r l. count-is (h .onRegions) r l [] gone (stored (popFrame L) r) (omega (arith, slots-out r l, pop-stored L r v, h .counts r l)) (omega (arith, small r, pop-stored L r v)))
+      (λ r l. count-is (h .onRegions) r f k l [] gone (stored (popFrame L) r) (omega (arith, slots-out r l, pop-stored L r v, h .counts r l)) (omega (arith, small r, pop-stored L r v)))
       h
     where
       gone : List ℕ
@@ -137,20 +137,20 @@ module _ (L : Model) (sp : List ℕ) (ids : ℕ → List ℕ) (S : Store) (v : V
             (push-frames sp (L .frames) (L .counted) (frames S) n (z .inFrames) few small (v .frames .sized) (h .onFrames)) (λ r l. h .counts r l ∙ sym (push-stored L r v (replicate n 0))) h),
       )
 
-  pub drop-step : ((r : ℕ) → stored L r ≤ 16640) → Accepted dropFrame S a T → (a ≡ reply L dropFrame) × Represents (accepted L dropFrame) sp ids T
-  unfolding Accepted reply accepted
-  drop-step small x = (x .0 ∙ ap (λ k. gives (k ∷ [])) (top-frame (h .onFrames)), rw (x .1) (popped-represents L sp ids S v h small))
+  pub drop-step : ((r : ℕ) → stored L r ≤ 16640) → (f : ℕ) → refusal L (dropFrame f) ≡ 0 → Accepted (dropFrame f) S a T → (a ≡ reply L (dropFrame f)) × Represents (accepted L (dropFrame f)) sp ids T
+  unfolding checks Accepted reply accepted
+  drop-step small f e x = (x .0 ∙ ap (λ k. gives (k ∷ [])) (top-frame (h .onFrames)), rw (x .1) (popped-represents L sp ids S v h f (filler-one f (passed L (dropFrame f) e .0)) small))
 
-  pub hand-step : Sized S → ((r : ℕ) → stored L r ≤ 16640) → (s b : ℕ) → refusal L (handBack s b) ≡ 0 → Accepted (handBack s b) S a T
-      → (a ≡ reply L (handBack s b)) × Represents (accepted L (handBack s b)) sp ids T
+  pub hand-step : Sized S → ((r : ℕ) → stored L r ≤ 16640) → (s b f : ℕ) → refusal L (handBack s b f) ≡ 0 → Accepted (handBack s b f) S a T
+      → (a ≡ reply L (handBack s b f)) × Represents (accepted L (handBack s b f)) sp ids T
   unfolding checks Accepted reply accepted popFrame storePop recounted popped
-  hand-step z small s b e x =
-      let t = passed L (handBack s b) e in
-      let two = ltb-false (length (L .frames)) 2 (t .0) in
-      let q = neither (lacks (top L) s) (lacks (beneath L) b) (t .1 .0) in
+  hand-step z small s b f e x =
+      let t = passed L (handBack s b f) e in
+      let two = ltb-false (length (L .frames)) 2 (t .1 .0) in
+      let q = neither (lacks (top L) s) (lacks (beneath L) b) (t .1 .1 .0) in
       let d : length (take (topPlace (L .frames)) (L .frames)) - 1 ≡ length (L .frames) - 2 = simp length-take (omega arith) in
       let u : top (popFrame L) ≡ beneath L = rw (d, getD-take (topPlace (L .frames)) (L .frames) (length (L .frames) - 2) [] (omega arith)) in
       let k : b < length (top (popFrame L)) = rw u (leb-false (length (beneath L)) b (q .1)) in (
         x .0 ∙ ap (λ k. gives (k ∷ [])) (top-frame (h .onFrames)),
-        rw (x .1, slot-is h s (q .0)) (fill-represents (popFrame L) sp ids (storePop S) (pop-valid L v) (popped-represents L sp ids S v h small) (z .inFrames .slots) b (slot L s) k),
+        rw (x .1, slot-is h s (q .0)) (fill-represents (popFrame L) sp ids (storePop S f) (pop-valid L v) (popped-represents L sp ids S v h f (filler-one f (t .0)) small) (z .inFrames .slots) b (slot L s) k),
       )

@@ -2,7 +2,7 @@
 -- Assumes nothing.
 use mathlib.Core.Path.{_≡_, refl, sym, ap, _∙_, fun-ext}
 use mathlib.Core.Bool.{Bool, true, false, not, _||_}
-use mathlib.Core.List.{List, [], map}
+use mathlib.Core.List.{List, map}
 use Prim.Native.Nat.{ℕ, zero, suc, _+_, _<_, _≤_}
 use native.Mathlib.Numerals.{add-one}
 use native.Mathlib.Omega.{arith}
@@ -20,12 +20,13 @@ use Rattle.model.specs.Valid.{Valid}
 use Rattle.model.specs.Laws.Regions.{found-itself}
 use Rattle.model.specs.Laws.Counts.{outside-stored, words-parted, fromOne}
 use Rattle.regions.specs.declared.Regions.{Regions}
-use Rattle.regions.specs.Regions.{nameAt, entryOf, tagOf, parentAt, followsIn, closedIn}
+use Rattle.regions.specs.Regions.{nameAt, entryOf, tagOf, parentAt, followsIn, closedIn, countAt}
+use Rattle.regions.specs.Laws.Counts.{rolled-exact}
 use Rattle.outcomes.specs.Store.{Store, frames, regions, pages, targetsIn, slotTargets, uncountedIn, slotsBeyondIn, slotsBeyond, ledIn, ledInto, ledAmongIn, ledAmong}
 use Rattle.outcomes.specs.Outcome.{outgoing, countBut}
 use Rattle.refinement.specs.Represents.{tagFor, RegionsAgree, Represents}
 use Rattle.refinement.specs.Laws.Tags.{Named, live-named, tag-among, zero-tag, entry-live, entry-own, parent-known}
-use Rattle.refinement.specs.Laws.Counts.{count-is, slots-beyond}
+use Rattle.refinement.specs.Laws.Counts.{slots-beyond}
 use Rattle.refinement.specs.Laws.Delete.{gone-members}
 
 -- ---- the look over the uncounted frames, of any memory: once for all members, it finds what it finds for one of them
@@ -112,9 +113,9 @@ module _ {L : Model} {sp : List ℕ} {ids : ℕ → List ℕ} {S : Store} (v : V
     left-is r = omega (arith, sum-split (sumOf (into (homeIn L) r)) (L .counted) (L .frames))
 
     count-left : (r : ℕ) → livesIn L r ≡ true → countBut S ts (entryOf (regions S) r) ≡ left r
-    unfolding countBut stored
-    count-left r l = count-is (h .onRegions) r l [] (outgoing S ts) (left r)
-        (parts _ _ _ _ _ _ (gone-members S v h r l rs ls) (words-parted L rs ls once r) (h .counts r l))
+    unfolding countBut stored tagOf
+    count-left r l = rolled-exact (countAt (regions S) (entryOf (regions S) r)) 0 (times (suc (entryOf (regions S) r)) (outgoing S ts)) (left r)
+        (parts _ _ _ _ _ _ (rw (add-one (entryOf (regions S) r)) at (gone-members S v h r l rs ls)) (words-parted L rs ls once r) (h .counts r l))
         (omega (arith, words-parted L rs ls once r, outside-stored L r, small r))
       where
         parts : (w f g x p c : ℕ) → x ≡ g → w + g ≡ p → c ≡ p + f → w + f + x ≡ c + 0

@@ -18,7 +18,7 @@ use Rattle.model.specs.Valid.{Valid}
 use Rattle.model.specs.Laws.Regions.{homes-kept}
 use Rattle.model.specs.Laws.Slots.{Known, slot-lives, in-list}
 use Rattle.model.specs.Moves.{weighs, moves}
-use Rattle.model.specs.Laws.Passed.{passed}
+use Rattle.model.specs.Laws.Passed.{passed, filler-one}
 use Rattle.model.specs.Laws.Moves.{accepted-stored}
 use Rattle.regions.specs.declared.Regions.{Regions}
 use Rattle.regions.specs.Regions.{entryOf, tagOf, countAt}
@@ -177,26 +177,26 @@ module _ (L : Model) (sp : List ℕ) (ids : ℕ → List ℕ) (S : Store) (v : V
       go false = refl
 
 module _ (L : Model) (sp : List ℕ) (ids : ℕ → List ℕ) (S : Store) (v : Valid L) (h : Represents L sp ids S) (a : Answer) (T : Store) where
-  pub pointer-step : ((r : ℕ) → stored L r ≤ 16640) → (s w t : ℕ) → refusal L (setPointer s w t) ≡ 0 → Accepted (setPointer s w t) S a T
-      → (a ≡ reply L (setPointer s w t)) × Represents (accepted L (setPointer s w t)) sp ids T
+  pub pointer-step : ((r : ℕ) → stored L r ≤ 16640) → (s w t f : ℕ) → refusal L (setPointer s w t f) ≡ 0 → Accepted (setPointer s w t f) S a T
+      → (a ≡ reply L (setPointer s w t f)) × Represents (accepted L (setPointer s w t f)) sp ids T
   unfolding checks Accepted reply accepted writeWord pointed recounted moves
-  pointer-step small s w t e y =
-      let c = passed L (setPointer s w t) e in
-      let b = neither (lacks (top L) s) (lacks (top L) t) (c .1 .0) in
-      let n = c .1 .1 .0 in
-      let k = leb-false (length ((inSlot L s) .words)) w (c .1 .1 .1 .0) in
-      let m = c .1 .1 .1 .1 .0 in
+  pointer-step small s w t f e y =
+      let c = passed L (setPointer s w t f) e in
+      let b = neither (lacks (top L) s) (lacks (top L) t) (c .1 .1 .0) in
+      let n = c .1 .1 .1 .0 in
+      let k = leb-false (length ((inSlot L s) .words)) w (c .1 .1 .1 .1 .0) in
+      let m = c .1 .1 .1 .1 .1 .0 in
       let o = slot-lives L v s n in
       let old = getD ((inSlot L s) .words) w 0 in
       let was : wordAt (S .heap) (spot sp (slot L s)) w ≡ spot sp old = rw m at (word-is (h .onObjects) (slot L s) w o k) in
       let sort = mark-is (h .onObjects) (h .onKinds) v (slot L s) w (top-known v s) k in
       let counted = countedIn S (markAt L s w) (ownerOf (pages S) (spot sp (slot L s))) in (
         y .0,
-        rw (y .1, slot-is h s (b .0), slot-is h t (b .1), was, sort) (rw m at (written L sp ids S v h s w (slot L t) n k _ (recount-beside (regions S) (counted (spot sp (slot L t))) (counted (spot sp old))) (λ r l.
+        rw (y .1, slot-is h s (b .0), slot-is h t (b .1), was, sort) (rw m at (written L sp ids S v h s w (slot L t) n k _ (recount-beside (regions S) f (counted (spot sp (slot L t))) (counted (spot sp old))) (λ r l.
             let i = counted-weighs L sp ids S v h s w n r l (slot L t) (top-known v t) in
             let j = counted-weighs L sp ids S v h s w n r l old (word-known L v (slot L s) w o k m) in
-            let d = accepted-stored L r v (setPointer s w t) e l in
-            count-is (h .onRegions) r l (counted (spot sp (slot L t))) (counted (spot sp old)) (stored (accepted L (setPointer s w t)) r)
+            let d = accepted-stored L r v (setPointer s w t f) e l in
+            count-is (h .onRegions) r f (filler-one f (c .0)) l (counted (spot sp (slot L t))) (counted (spot sp old)) (stored (accepted L (setPointer s w t f)) r)
             (omega (arith, h .counts r l)) (omega (arith, small r, weighs-most L s w r (slot L t)))))),
       )
 

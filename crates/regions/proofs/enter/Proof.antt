@@ -12,7 +12,8 @@ returns-2 : tie.Need-returns-2
 unfolding stepped
 returns-2 c =
     let s = c .before .before in
-    rw (ne-eqb _ _ (s .before .before .before .before .before .if1 .left), ← s .before .before .before .word .ensures, ← s .before .before .up .ensures) (s .store .ensures)
+    let u = s .before .before in
+    rw (ne-eqb _ _ (u .before .before .before .if1 .left), ← u .before .word .ensures, ← u .up .ensures) (s .store .ensures)
 
 pub enter-spec : {M : Type 1} → statement M
-enter-spec = tie.close (tie.spec returns (λ c. search needs) (λ c. search needs) (λ c κs. search needs) (λ c κs. search needs) (λ c κs. search needs) (λ c. search needs) returns-2)
+enter-spec = tie.close (tie.spec returns (λ c. search needs) (λ c. search needs) (λ c. search needs) (λ c. search needs) (λ c κs. search needs) (λ c κs. search needs) (λ c κs. search needs) (λ c. search needs) returns-2)

@@ -89,6 +89,13 @@ pub live-unused : (r : Regions) → liveCount r + countOf (λ i. eqb (nameAt r i
 unfolding liveCount nameAt
 live-unused r = live-rest (r .names)
 
+-- the entry for a new region, if there is one, is not in use
+pub unused-free : (r : Regions) → unused r < 64 → nameAt r (unused r) ≡ 0
+unfolding unused unusedIn nameAt
+unused-free r h =
+    let none : ℕ → Bool = λ i. eqb (nameAt r i) 0 in
+    by-test (anyOf none (upTo 64)) (λ e. eqb-true (nameAt r (findOr none 64 (upTo 64))) 0 (find-found none 64 64 e .1)) (λ e. absurd (omega (arith, find-none none 64 (upTo 64) e)))
+
 pub unused-found : (r : Regions) → liveCount r < 64 → (unused r < 64) × (nameAt r (unused r) ≡ 0)
 unfolding unused unusedIn nameAt
 unused-found r h =

@@ -1,23 +1,20 @@
--- The laws by which everything else knows a change of stored counts (Regions, `recount`): what a count is afterwards, and that nothing else of the regions changes.
--- What is left of the array of counts itself stands at the end: its shape, and that counts changed in place are those of `recount`.
+-- The laws by which everything else knows a change of stored counts (Regions, `recount`): what a share and a count are afterwards, and that nothing else of the regions changes.
+-- What is left of the array of shares itself stands at the end: its shape, and that shares changed in place are those of `recount`.
 -- Assumes nothing.
 use mathlib.Core.Path.{_≡_, refl, sym, ap, _∙_}
 use mathlib.Core.Logic.{inl}
 use mathlib.Core.List.{List, [], _∷_, _++_, append-nil}
-use Prim.Native.Nat.{ℕ, suc, _+_, _<_, _≤_}
-use native.Mathlib.Omega.{arith}
-use lib.Dec.{ltb}
-use lib.ListN.{length, getD, List·getD-eq-default}
-use borrow.Author.Tests.{ltb-true, ltb-false}
-use Rattle.lists.specs.Lists.{All, times}
-use Rattle.lists.specs.Laws.Tests.{by-test}
+use Prim.Native.Nat.{ℕ, suc, _+_, _<_}
+use lib.Dec.{eqb}
+use lib.ListN.{length, getD}
+use Rattle.lists.specs.Lists.{pick, All, times}
 use Rattle.lists.specs.Laws.Kept.{all-places}
 use Rattle.regions.specs.declared.Regions.{Regions}
-use Rattle.regions.specs.Regions.{countAt, withCounts, rolled, moved, recount}
-use Rattle.regions.specs.Laws.Counts.{Counts, rolled-exact, moved-length, moved-at, moved-counts, moved-none, moved-moved, moved-same, moved-come-skip, moved-gone-skip}
+use Rattle.regions.specs.Regions.{shareAt, countAt, withShares, rolled, moved, recount}
+use Rattle.regions.specs.Laws.Counts.{Shares, rolled-none, rolled-exact, count-below, moved-length, moved-below, moved-shares, share-moved, count-moved, moved-none, moved-moved, moved-same, moved-come-skip, moved-gone-skip}
 use Rattle.regions.specs.Laws.Steps.{steps, enterings, leavings, enterings-moved, leavings-moved}
 
--- h is g but for the stored counts
+-- h is g but for the shares of stored counts
 pub record Beside (g h : Regions) : Type 0 where
   pub given : h .given ≡ g .given
   pub names : h .names ≡ g .names
@@ -29,77 +26,85 @@ pub record Beside (g h : Regions) : Type 0 where
 pub beside-same : (g : Regions) → Beside g g
 beside-same g = record { given = refl; names = refl; parents = refl; levels = refl; newest = refl; oldest = refl }
 
--- lists that have each tag but 0 equally often move the counts alike
-pub recount-same : (g : Regions) (come a b : List ℕ) → ((i : ℕ) → times (suc i) a ≡ times (suc i) b) → recount g come a ≡ recount g come b
-unfolding recount
-recount-same g come a b h = ap (withCounts g) (moved-same (g .counts) come a come b (λ i l. refl) (λ i l. h i))
+-- a stored count has 32 bits, whatever the shares are
+pub total-below : (g : Regions) (i : ℕ) → countAt g i < 4294967296
+unfolding countAt
+total-below g i = count-below (g .shares) i
 
-module _ (g : Regions) (come gone : List ℕ) where
-  pub recount-beside : Beside g (recount g come gone)
-  unfolding recount withCounts
+-- so nothing of it is rolled over where no pointer moves
+pub total-still : (g : Regions) (i : ℕ) → rolled (countAt g i) 0 0 ≡ countAt g i
+total-still g i = rolled-none (countAt g i) (total-below g i)
+
+-- lists that have each tag but 0 equally often move the counts alike
+pub recount-same : (g : Regions) (f : ℕ) (come a b : List ℕ) → ((i : ℕ) → times (suc i) a ≡ times (suc i) b) → recount g f come a ≡ recount g f come b
+unfolding recount
+recount-same g f come a b h = ap (withShares g) (moved-same f (g .shares) come a come b (λ i l. refl) (λ i l. h i))
+
+module _ (g : Regions) (f : ℕ) (come gone : List ℕ) where
+  pub recount-beside : Beside g (recount g f come gone)
+  unfolding recount withShares
   recount-beside = record { given = refl; names = refl; parents = refl; levels = refl; newest = refl; oldest = refl }
 
-  pub recount-at : (i : ℕ) → i < 64 → countAt (recount g come gone) i ≡ rolled (countAt g i) (times (suc i) come) (times (suc i) gone)
-  unfolding recount withCounts countAt
-  recount-at i h = moved-at (g .counts) come gone i h
+  -- a share of filler f moves by what came and went, and one of another filler stays
+  pub recount-share : (h i : ℕ) → h < 4 → i < 64 → shareAt (recount g f come gone) h i ≡ pick (eqb h f) (rolled (shareAt g h i) (times (suc i) come) (times (suc i) gone)) (shareAt g h i)
+  unfolding recount withShares shareAt
+  recount-share h i k l = share-moved f (g .shares) come gone h i k l
 
-  -- a count is n afterwards, if n is what was kept with what came and without what went
-  pub recount-exact : (i n : ℕ) → i < 64 → n + times (suc i) gone ≡ countAt g i + times (suc i) come → n < 4294967296 → countAt (recount g come gone) i ≡ n
-  recount-exact i n l e h = recount-at i l ∙ rolled-exact (countAt g i) (times (suc i) come) (times (suc i) gone) n e h
+  module _ (small : f < 4) where
+    pub recount-at : (i : ℕ) → i < 64 → countAt (recount g f come gone) i ≡ rolled (countAt g i) (times (suc i) come) (times (suc i) gone)
+    unfolding recount withShares countAt
+    recount-at i h = count-moved f (g .shares) come gone i small h
+
+    -- a count is n afterwards, if n is what was kept with what came and without what went
+    pub recount-exact : (i n : ℕ) → i < 64 → n + times (suc i) gone ≡ countAt g i + times (suc i) come → n < 4294967296 → countAt (recount g f come gone) i ≡ n
+    recount-exact i n l e h = recount-at i l ∙ rolled-exact (countAt g i) (times (suc i) come) (times (suc i) gone) n e h
 
   -- tag 0 is no region's: its pointers change nothing
-  pub recount-come-none : recount g (0 ∷ come) gone ≡ recount g come gone
+  pub recount-come-none : recount g f (0 ∷ come) gone ≡ recount g f come gone
   unfolding recount
-  recount-come-none = ap (withCounts g) (moved-come-skip (g .counts) come gone 0 (inl refl))
+  recount-come-none = ap (withShares g) (moved-come-skip f (g .shares) come gone 0 (inl refl))
 
-  pub recount-gone-none : recount g come (0 ∷ gone) ≡ recount g come gone
+  pub recount-gone-none : recount g f come (0 ∷ gone) ≡ recount g f come gone
   unfolding recount
-  recount-gone-none = ap (withCounts g) (moved-gone-skip (g .counts) come gone 0 (inl refl))
+  recount-gone-none = ap (withShares g) (moved-gone-skip f (g .shares) come gone 0 (inl refl))
 
-  -- the array afterwards is one of 64 numbers of 32 bits
-  pub recount-length : length ((recount g come gone) .counts) ≡ 64
-  unfolding recount withCounts
-  recount-length = moved-length (g .counts) come gone
+  -- the array afterwards is one of 256 numbers of 32 bits, if it was
+  pub recount-length : length ((recount g f come gone) .shares) ≡ 256
+  unfolding recount withShares
+  recount-length = moved-length f (g .shares) come gone
 
-  pub recount-counts : Counts ((recount g come gone) .counts)
-  unfolding recount withCounts
-  recount-counts = moved-counts (g .counts) come gone
+  pub recount-shares : Shares (g .shares) → Shares ((recount g f come gone) .shares)
+  unfolding recount withShares
+  recount-shares = moved-shares f (g .shares) come gone
 
-  pub recount-below : All (λ x. x < 4294967296) ((recount g come gone) .counts)
-  unfolding recount withCounts
-  recount-below = all-places (λ x. x < 4294967296) (moved (g .counts) come gone) 0 (λ i l. moved-counts (g .counts) come gone .1 i)
+  pub recount-below : ((p : ℕ) → getD (g .shares) p 0 < 4294967296) → All (λ x. x < 4294967296) ((recount g f come gone) .shares)
+  unfolding recount withShares
+  recount-below h = all-places (λ x. x < 4294967296) (moved f (g .shares) come gone) 0 (λ p l. moved-below f (g .shares) come gone h p)
 
 -- one change after the other; and none
-pub recount-recount : (g : Regions) (a b come gone : List ℕ) → recount (recount g a b) come gone ≡ recount g (a ++ come) (b ++ gone)
-unfolding recount withCounts
-recount-recount g a b come gone = ap (withCounts g) (moved-moved (g .counts) a b come gone)
+pub recount-recount : (g : Regions) (f : ℕ) (a b come gone : List ℕ) → recount (recount g f a b) f come gone ≡ recount g f (a ++ come) (b ++ gone)
+unfolding recount withShares
+recount-recount g f a b come gone = ap (withShares g) (moved-moved f (g .shares) a b come gone)
 
-pub recount-none : (g : Regions) → Counts (g .counts) → recount g [] [] ≡ g
-unfolding recount withCounts
-recount-none g fits = ap (withCounts g) (moved-none (g .counts) fits)
+pub recount-none : (g : Regions) (f : ℕ) → Shares (g .shares) → recount g f [] [] ≡ g
+unfolding recount withShares
+recount-none g f fits = ap (withShares g) (moved-none f (g .shares) fits)
 
--- a count changes alike by lists that have its tag equally often
-pub recount-alike : (g : Regions) (come a b : List ℕ) (i : ℕ) → times (suc i) a ≡ times (suc i) b → countAt (recount g come a) i ≡ countAt (recount g come b) i
-unfolding countAt
-recount-alike g come a b i e =
-    by-test (ltb i 64)
-    (λ h. let l = ltb-true i 64 h in recount-at g come a i l ∙ ap (rolled (countAt g i) (times (suc i) come)) e ∙ sym (recount-at g come b i l))
-    (λ h. past a (ltb-false i 64 h) ∙ sym (past b (ltb-false i 64 h)))
-  where
-    past : (gone : List ℕ) → 64 ≤ i → getD ((recount g come gone) .counts) i 0 ≡ 0
-    past gone h = List·getD-eq-default ((recount g come gone) .counts) 0 {n = i} (omega (arith, recount-length g come gone))
+-- the shares of an entry change alike by lists that have its tag equally often
+pub recount-alike : (g : Regions) (f : ℕ) (come a b : List ℕ) (h i : ℕ) → h < 4 → i < 64 → times (suc i) a ≡ times (suc i) b → shareAt (recount g f come a) h i ≡ shareAt (recount g f come b) h i
+recount-alike g f come a b h i k l e = recount-share g f come a h i k l ∙ rw e (sym (recount-share g f come b h i k l))
 
--- the counts changed in place, one pointer after the other, are those of `recount`: pointers that leave, and others that enter after them
-module _ (g : Regions) (fits : Counts (g .counts)) where
-  pub enter-leave-recount : (come gone : List ℕ) → withCounts g (enterings (leavings (g .counts) gone) come) ≡ recount g come gone
+-- the shares changed in place, one pointer after the other, are those of `recount`: pointers that leave, and others that enter after them
+module _ (g : Regions) (f : ℕ) (small : f < 4) (fits : Shares (g .shares)) where
+  pub enter-leave-recount : (come gone : List ℕ) → withShares g (enterings f (leavings f (g .shares) gone) come) ≡ recount g f come gone
   unfolding recount
   enter-leave-recount come gone =
-      ap (withCounts g)
-      (ap (λ c. enterings c come) (leavings-moved (g .counts) gone fits)
-      ∙ enterings-moved (moved (g .counts) [] gone) come (moved-counts (g .counts) [] gone)
-      ∙ moved-moved (g .counts) [] gone come []
-      ∙ ap (moved (g .counts) come) (append-nil gone))
+      ap (withShares g)
+      (ap (λ c. enterings f c come) (leavings-moved f small (g .shares) gone fits)
+      ∙ enterings-moved f small (moved f (g .shares) [] gone) come (moved-shares f (g .shares) [] gone fits)
+      ∙ moved-moved f (g .shares) [] gone come []
+      ∙ ap (moved f (g .shares) come) (append-nil gone))
 
-  pub leave-recount : (gone : List ℕ) → withCounts g (leavings (g .counts) gone) ≡ recount g [] gone
+  pub leave-recount : (gone : List ℕ) → withShares g (leavings f (g .shares) gone) ≡ recount g f [] gone
   unfolding steps
   leave-recount gone = enter-leave-recount [] gone

@@ -10,7 +10,7 @@ returns c heap h =
       sized = record {
         inFrames = record { widths = search needs; slots = search needs };
         inKinds = record { sizes = search needs; marks = search needs };
-        inRegions = record { names = search needs; parents = search needs; levels = search needs; counts = search needs; newest = search needs; oldest = search needs };
+        inRegions = record { names = search needs; parents = search needs; levels = search needs; shares = search needs; newest = search needs; oldest = search needs };
         inPages = record { owners = search needs; taken = search needs };
       };
       bounded = record {
@@ -26,7 +26,7 @@ returns c heap h =
           names = bits32 (s .regions .names) (λ i. search needs);
           parents = bits8 (s .regions .parents) (λ i. search needs);
           levels = bits8 (s .regions .levels) (λ i. search needs);
-          counts = bits32 (s .regions .counts) (λ i. search needs);
+          shares = bits32 (s .regions .shares) (λ i. search needs);
           newest = bits16 (s .regions .newest) (λ i. search needs);
           oldest = bits32 (s .regions .oldest) (λ i. search needs);
         };

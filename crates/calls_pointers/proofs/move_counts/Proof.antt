@@ -1,9 +1,0 @@
-use borrow.Author.Needs.{needs}
-use Rattle.calls_pointers.proofs.move_counts.Statement.{statement}
-use Rattle.calls_pointers.proofs.move_counts.Tie as tie
-
-returns : tie.Need-returns
-returns c = rw (← c .before .before .leave .ensures, ← c .enter .ensures)
-
-pub move-counts-spec : {M : Type 1} → statement M
-move-counts-spec = tie.close (tie.spec (λ c κs. search needs) (λ c κs. search needs) returns)
