@@ -45,7 +45,7 @@ printf '%-18s %14s %14s\n' call 'ns a call' 'instructions'
 done
 [ $# -eq 0 ] || exit 0
 
-# the script's calls and its time, printed to nowhere: few reports and audits, then many
+# what the script has and its time, printed to nowhere: few reports and audits, then many
 quiet rt check drive
 for rates in '10 1' '140 5'; do
     # shellcheck disable=SC2086

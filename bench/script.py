@@ -1,13 +1,13 @@
-"""Writes a script for `drive`, just under 1 MiB of mixed calls on 256 pages, always the same, to standard output.
+"""Writes a script for `drive`, just under 10 million bytes of mixed calls on 256 pages, always the same, to standard output.
 
-    script.py [REPORTS [AUDITS]]    of a thousand calls, so many are reports and audits (10 and 1)
+    script.py [REPORTS [AUDITS [BYTES]]]    of a thousand calls, so many are reports and audits (10 and 1)
 
 Regions and subregions fill up until no page is free; then one is deleted, and others are begun. A small model of the store is kept,
 so that nearly all calls are accepted. How many calls, reports and audits there are is said on standard error.
 """
 import sys
 
-LIMIT = 1 << 20
+LIMIT = 10_000_000
 PAGES = 256
 WORDS = 64
 MOST_FRAMES = 32
@@ -61,7 +61,8 @@ class Object:
 
 
 class Script:
-    def __init__(self, reports, audits):
+    def __init__(self, reports, audits, limit):
+        self.limit = limit
         self.out = []
         self.size = 0
         self.calls = 1
@@ -320,16 +321,17 @@ class Script:
     def text(self):
         self.push()
         self.begin()
-        while self.size < LIMIT - 1024:
+        while self.size < self.limit - 1024:
             self.step()
         return "\n".join(self.out) + "\n"
 
 
 def main():
-    rates = [float(x) for x in sys.argv[1:3]] + [10, 1][len(sys.argv[1:3]):]
-    script = Script(*rates)
+    given = [float(x) for x in sys.argv[1:4]]
+    reports, audits, limit = given + [10, 1, LIMIT][len(given):]
+    script = Script(reports, audits, limit)
     sys.stdout.write(script.text())
-    print("%d calls, of which %d reports and %d audits" % (script.calls, script.reports, script.audits), file=sys.stderr)
+    print("%d bytes, %d calls, of which %d reports and %d audits" % (script.size, script.calls, script.reports, script.audits), file=sys.stderr)
 
 
 main()

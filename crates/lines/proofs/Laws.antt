@@ -1,4 +1,4 @@
--- The digits that `io::decimal` gives are `decimal`, and what is added to a buffer step by step is added to it whole.
+-- The digits that `io::decimal` gives are `decimal`, and bytes laid over a buffer are added to it.
 use mathlib.Core.Path.{_≡_, refl}
 use mathlib.Core.List.{List, _++_, append-assoc}
 use Prim.Native.Nat.{ℕ, zero, suc, _+_, _-_, _*_, _/_, _%_, _^_, _≤_, _<_}
@@ -35,14 +35,6 @@ fewest (suc f) (suc (suc j)) n h w =
     let low : 10 ^ suc j ≤ n = rw d at (w .2 (omega arith)) in
     let b : n < 10 ^ suc (suc j) = w .1 in
     rw (le-ltb n 10 (omega arith), glyph-digit (n % 10) (omega arith), fewest f (suc j) (n / 10) (omega arith) (omega arith, omega arith, λ _. rw d2 (omega arith)))
-
--- one after the other
-pub added : {l m p s t : List ℕ} {at i r : ℕ} → length m ≡ length l → Added l at s m i → Added m i t p r → Added l at (s ++ t) p r
-added {l} {m} {p} {s} {t} {at} {i} {r} e a b =
-    record {
-      end = λ h. let n = length-append s t in let x = a .end (omega arith) in omega (arith, b .end (omega arith));
-      text = λ h. let n = length-append s t in let x = a .end (omega arith) in rw (b .text (omega arith), a .text (omega arith), append-assoc);
-    }
 
 -- bytes laid over those from `at` on: q and z are what stands after them
 pub laid : (l s y q z : List ℕ) (at : ℕ) → at ≤ length l → y ≡ take (length s) s ++ q → Added l at s (take at l ++ (y ++ z)) (at + length s)

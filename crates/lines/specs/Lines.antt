@@ -13,9 +13,9 @@ unfoldable pub numeral : ℕ → ℕ → List ℕ
 numeral zero n = []
 numeral (suc k) n = let l = numeral k (n / 10) in pick (ltb n 10) ((48 + n) ∷ []) (l ++ ((48 + n % 10) ∷ []))
 
--- n in decimal: a number of 32 bits has at most ten digits
+-- n in decimal: a number of 64 bits has at most twenty digits
 unfoldable pub decimal : ℕ → List ℕ
-decimal n = numeral 10 n
+decimal n = numeral 20 n
 
 -- a space and a number
 unfoldable pub column : ℕ → List ℕ
@@ -28,6 +28,10 @@ lineOf p r = decimal p ++ column (r .refusal) ++ column (r .a) ++ column (r .b) 
 -- `? k`, for line k of a script, which is no call
 unfoldable pub badOf : ℕ → List ℕ
 badOf k = (63 ∷ 32 ∷ []) ++ decimal k ++ (10 ∷ [])
+
+-- a summary's line, `= CALLS ACCEPTED REFUSED BAD`
+unfoldable pub summaryOf : ℕ → ℕ → ℕ → ℕ → List ℕ
+summaryOf calls accepted refused bad = (61 ∷ []) ++ column calls ++ column accepted ++ column refused ++ column bad ++ (10 ∷ [])
 
 -- Where s fits after the first `at` bytes of the buffer l, the first r bytes of the buffer m are those bytes and then s.
 pub record Added (l : List ℕ) (at : ℕ) (s : List ℕ) (m : List ℕ) (r : ℕ) : Type 0 where

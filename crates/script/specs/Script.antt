@@ -2,12 +2,12 @@
 -- document 02's cards), and the arguments in the documents' order, written in decimal. In front may stand `as F`, which names the filler F (document 02, card 5).
 -- Assumes nothing.
 use mathlib.Core.Bool.{Bool, not, _&&_, _||_}
-use mathlib.Core.List.{List, [], _∷_, map}
+use mathlib.Core.List.{List, [], _∷_, _++_, map}
 use Prim.Native.Nat.{ℕ, suc, _+_, _-_, _*_, min}
 use Prim.Native.Char.{code}
 use Prim.Native.String.{String, [] as []ᵗ, _∷_ as _∷ᵗ_}
 use lib.Dec.{eqb, ltb, leb}
-use lib.ListN.{length, getD, drop, replicate}
+use lib.ListN.{length, getD, take, drop, replicate}
 use lib.Seq.{sets}
 use Rattle.lists.specs.Lists.{pick, every, equal}
 use Rattle.script.specs.declared.Line.{Line}
@@ -70,39 +70,61 @@ known v = ltb v noNumber
 -- ---- calls
 
 -- The calls in the order of document 01's numbers, with `pages` in the place of make, and then those of document 02's cards: the name, the least and the
--- most number of arguments (declare's are its marks and delete_all's its names, 64 at most on a line), and 1 where a filler may be named in front, 0 elsewhere
--- (document 02, card 5). A call added later is a row at the end.
-abbrev pub calls : List (String × ℕ × ℕ × ℕ)
+-- most number of arguments (declare's are its marks and delete_all's its names, 64 at most on a line), 1 where a filler may be named in front, 0 elsewhere
+-- (document 02, card 5), and what help calls the arguments. A call added later is a row at the end.
+abbrev pub calls : List (String × ℕ × ℕ × ℕ × String)
 calls =
-    ("pages", 1, 1, 0) ∷ ("declare", 0, 64, 0) ∷ ("new_region", 0, 0, 0) ∷ ("subregion", 1, 1, 0) ∷ ("push", 1, 1, 0) ∷ ("drop", 0, 0, 1)
-    ∷ ("hand_back", 2, 2, 1) ∷ ("allocate", 3, 3, 0) ∷ ("first", 2, 2, 0) ∷ ("copy", 2, 2, 0) ∷ ("fetch", 2, 2, 0) ∷ ("clear", 1, 1, 0)
-    ∷ ("load", 3, 3, 0) ∷ ("set_pointer", 3, 3, 1) ∷ ("put", 3, 3, 0) ∷ ("get", 2, 2, 0) ∷ ("view", 1, 1, 0) ∷ ("same", 2, 2, 0)
-    ∷ ("about", 1, 1, 0) ∷ ("report", 1, 1, 0) ∷ ("totals", 0, 0, 0) ∷ ("audit", 0, 0, 0) ∷ ("delete", 1, 1, 1) ∷ ("delete_all", 0, 64, 1)
-    ∷ ("locate", 1, 1, 0) ∷ []
+    ("pages", 1, 1, 0, "PAGES") ∷ ("declare", 0, 64, 0, "MARK ..") ∷ ("new_region", 0, 0, 0, "") ∷ ("subregion", 1, 1, 0, "REGION") ∷ ("push", 1, 1, 0, "SLOTS")
+    ∷ ("drop", 0, 0, 1, "") ∷ ("hand_back", 2, 2, 1, "SLOT BENEATH") ∷ ("allocate", 3, 3, 0, "SLOT REGION KIND") ∷ ("first", 2, 2, 0, "SLOT REGION") ∷ ("copy", 2, 2, 0, "FROM TO")
+    ∷ ("fetch", 2, 2, 0, "BENEATH SLOT") ∷ ("clear", 1, 1, 0, "SLOT") ∷ ("load", 3, 3, 0, "OBJECT WORD TO") ∷ ("set_pointer", 3, 3, 1, "OBJECT WORD VALUE")
+    ∷ ("put", 3, 3, 0, "OBJECT WORD NUMBER") ∷ ("get", 2, 2, 0, "OBJECT WORD") ∷ ("view", 1, 1, 0, "OBJECT") ∷ ("same", 2, 2, 0, "SLOT SLOT") ∷ ("about", 1, 1, 0, "SLOT")
+    ∷ ("report", 1, 1, 0, "REGION") ∷ ("totals", 0, 0, 0, "") ∷ ("audit", 0, 0, 0, "") ∷ ("delete", 1, 1, 1, "REGION") ∷ ("delete_all", 0, 64, 1, "REGION ..")
+    ∷ ("locate", 1, 1, 0, "SLOT") ∷ []
+
+-- the words that are no calls, with the same columns
+abbrev pub words : List (String × ℕ × ℕ × ℕ × String)
+words = ("summary", 0, 0, 0, "") ∷ ("help", 0, 0, 0, "") ∷ ("why", 1, 1, 0, "REFUSAL") ∷ []
+
+-- all that a line can begin with; a word that is no call has a number after those of the calls
+abbrev pub rows : List (String × ℕ × ℕ × ℕ × String)
+rows = calls ++ words
 
 -- the number of the last call; the first after `pages` is 2
 abbrev pub lastCall : ℕ
 lastCall = length calls
 
+-- the numbers of the words, after those of the calls; and the mark of a line that is none of all these, which no call will have
+abbrev pub summaryWord : ℕ
+summaryWord = lastCall + 1
+
+abbrev pub helpWord : ℕ
+helpWord = lastCall + 2
+
+abbrev pub whyWord : ℕ
+whyWord = lastCall + 3
+
+abbrev pub noCall : ℕ
+noCall = 255
+
 unfoldable pub names : List (List ℕ)
-names = map (λ c. bytes (c .0)) calls
+names = map (λ c. bytes (c .0)) rows
 
 -- by a call's number, 0 for none
 unfoldable pub least : List ℕ
-least = 0 ∷ map (λ c. c .1) calls
+least = 0 ∷ map (λ c. c .1) rows
 
 unfoldable pub most : List ℕ
-most = 0 ∷ map (λ c. c .2) calls
+most = 0 ∷ map (λ c. c .2) rows
 
 unfoldable pub fillers : List ℕ
-fillers = 0 ∷ map (λ c. c .3) calls
+fillers = 0 ∷ map (λ c. c .3) rows
 
 -- the place of a word in a list, counted from n on, or 0
 unfoldable pub placed : ℕ → List ℕ → List (List ℕ) → ℕ
 placed n w [] = 0
 placed n w (v ∷ vs) = pick (equal eqb w v) n (placed (suc n) w vs)
 
--- the number of the call that a word names or numbers, 1 for `pages`, 0 for none
+-- the number of the call that a word names or numbers, or of a word that is no call; 1 for `pages`, 0 for none
 unfoldable pub callOf : List ℕ → ℕ
 callOf w = pick (leb 2 (value w) && leb (value w) lastCall) (value w) (placed 1 w names)
 
@@ -110,9 +132,10 @@ callOf w = pick (leb 2 (value w) && leb (value w) lastCall) (value w) (placed 1 
 unfoldable pub takes : ℕ → ℕ → Bool
 takes n k = leb (getD least n 0) k && leb k (getD most n 0)
 
--- Call n may stand here with k arguments, a the first of them: `pages` with 257 at most while no store is made, any other call afterwards.
-unfoldable pub allowed : Bool → ℕ → ℕ → ℕ → Bool
-allowed made n k a = not (eqb n 0) && takes n k && pick (eqb n 1) (not made && leb a 257) made
+-- Call n may stand here with k arguments, a the first of them. The stage is 0 where no `pages` line came, 1 where make refused the last one, and 2 where a
+-- store is made: `pages` with 257 at most while none is made, any other call after a `pages` line; a word that is no call anywhere.
+unfoldable pub allowed : ℕ → ℕ → ℕ → ℕ → Bool
+allowed stage n k a = not (eqb n 0) && takes n k && pick (eqb n 1) (ltb stage 2 && leb a 257) (ltb lastCall n || ltb 0 stage)
 
 -- ---- lines
 
@@ -123,31 +146,49 @@ zeros = replicate 64 0
 unfoldable pub line : ℕ → ℕ → List ℕ → Line
 line n f vs = record { call = n; filler = f; count = length vs; args = sets zeros 0 vs }
 
--- a line that is no call; no call will have this number
+-- a line that is no call
 unfoldable pub bad : Line
-bad = line 255 0 []
+bad = line noCall 0 []
 
 -- the arguments have to be numbers, and no more than 64
 unfoldable pub given : ℕ → ℕ → List ℕ → Line
 given n f vs = pick (every known vs && leb (length vs) 64) (line n f vs) bad
 
 -- the call that the word w names, for filler f, with the words ws as its arguments
-unfoldable pub called : Bool → ℕ → List ℕ → List (List ℕ) → Line
-called made f w ws =
+unfoldable pub called : ℕ → ℕ → List ℕ → List (List ℕ) → Line
+called stage f w ws =
     let vs = map value ws in
-    pick (allowed made (callOf w) (length vs) (getD vs 0 0)) (given (callOf w) f vs) bad
+    pick (allowed stage (callOf w) (length vs) (getD vs 0 0)) (given (callOf w) f vs) bad
 
 -- What the words after `as` say: a filler, which is any number below 2^32, and then a call that names one (document 02, card 5). A word that is not there names no call.
-unfoldable pub acting : Bool → List (List ℕ) → Line
-acting made [] = bad
-acting made (w ∷ ws) =
+unfoldable pub acting : ℕ → List (List ℕ) → Line
+acting stage [] = bad
+acting stage (w ∷ ws) =
     let c = getD ws 0 [] in
-    pick (known (value w) && eqb (getD fillers (callOf c) 0) 1) (called made (value w) c (drop 1 ws)) bad
+    pick (known (value w) && eqb (getD fillers (callOf c) 0) 1) (called stage (value w) c (drop 1 ws)) bad
 
 -- what the words of a line say: the filler is 0 where none is named (document 02, card 5)
-unfoldable pub said : Bool → List (List ℕ) → Line
-said made [] = line 0 0 []
-said made (w ∷ ws) = pick (equal eqb w (bytes "as")) (acting made ws) (called made 0 w ws)
+unfoldable pub said : ℕ → List (List ℕ) → Line
+said stage [] = line 0 0 []
+said stage (w ∷ ws) = pick (equal eqb w (bytes "as")) (acting stage ws) (called stage 0 w ws)
 
-unfoldable pub scanned : Bool → List ℕ → Line
-scanned made l = said made (tokens l)
+unfoldable pub scanned : ℕ → List ℕ → Line
+scanned stage l = said stage (tokens l)
+
+-- the byte order mark that some editors put in front of a text, and a line without it
+abbrev pub mark : List ℕ
+mark = 239 ∷ 187 ∷ 191 ∷ []
+
+unfoldable pub unmarked : List ℕ → List ℕ
+unmarked l = pick (equal eqb (take 3 l) mark) (drop 3 l) l
+
+-- how many bytes a line may have, its comment among them, its newline not
+abbrev pub longestLine : ℕ
+longestLine = 4096
+
+unfoldable pub fitting : ℕ → List ℕ → Line
+fitting stage l = pick (leb (length l) longestLine) (scanned stage l) bad
+
+-- what a line of a script says, the first one or another: no call where it is too long
+unfoldable pub heard : ℕ → Bool → List ℕ → Line
+heard stage first l = fitting stage (pick first (unmarked l) l)

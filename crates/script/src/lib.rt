@@ -3,10 +3,10 @@ ghost use mathlib.Core.Path.{_≡_};
 ghost use mathlib.Core.List.{List, [], map};
 ghost use Prim.Native.Nat.{ℕ, _+_};
 ghost use lib.ListN.{length, getD, drop};
-ghost use Rattle.script.specs.Script.{blank, ofClass, front, tokens, value, placed, names, least, most, fillers, callOf, takes, allowed, line, given, called, acting, scanned};
+ghost use Rattle.script.specs.Script.{blank, ofClass, front, tokens, value, placed, names, least, most, fillers, callOf, takes, allowed, line, given, called, acting, scanned, fitting, unmarked, heard};
 ghost use Rattle.script.specs.Found.{NextWord, LineAt};
 
-// A line: `call` is 0 where nothing stands on it, 1 for pages, a call's number from 2 on, and 255 where it is none of these.
+// A line: `call` is 0 where nothing stands on it, 1 for pages, a call's number from 2 on, then come the words that are no calls, and 255 where it is none of these.
 // The filler is the one that `as` names, 0 where none is named. The arguments are the first `count` of `args`, and the others are 0.
 pub struct Line {
     pub call: u32,
@@ -18,8 +18,11 @@ pub struct Line {
 // The mark for a line that is no call: no call will have this number.
 const NO_CALL: u32 = 255;
 
-// The number of the last call.
-const LAST_CALL: u64 = 25;
+// The number of the last call; the words that are no calls come after it.
+const LAST_CALL: u32 = 25;
+
+// How long a line may be.
+const LONGEST_LINE: usize = 4096;
 
 // Where a word begins, and where it ends.
 struct Span {
@@ -76,6 +79,13 @@ fn word(s: &[u8], at: usize) -> Span
     let from = past(s, at, 0);
     let to = past(s, from, 1);
     Span { from, to }
+}
+
+// The first newline from `at` on, or the end.
+pub fn line_end(s: &[u8], at: usize) -> usize
+    ensures { λ r. ⌜ r ≡ at + length (front (ofClass 2) (drop at (now (s .entry)))) ⌝ }
+{
+    past(s, at, 2)
 }
 
 // The line that begins at `at`, without its newline.
@@ -142,7 +152,7 @@ fn named(w: &[u8]) -> u32
 {
     place_of(
         w,
-        b"pages declare new_region subregion push drop hand_back allocate first copy fetch clear load set_pointer put get view same about report totals audit delete delete_all locate",
+        b"pages declare new_region subregion push drop hand_back allocate first copy fetch clear load set_pointer put get view same about report totals audit delete delete_all locate summary help why",
     ) as u32
 }
 
@@ -154,7 +164,11 @@ fn call_of(w: &[u8]) -> u32
     if v < 2 {
         return named(w);
     }
-    if v <= LAST_CALL { v as u32 } else { named(w) }
+    if v <= LAST_CALL as u64 {
+        v as u32
+    } else {
+        named(w)
+    }
 }
 
 // The least number of arguments of call n.
@@ -162,7 +176,7 @@ fn least(n: u32) -> u32
     ensures { λ r. ⌜ r ≡ getD least n 0 ⌝ }
 {
     cells::byte(
-        b"\x00\x01\x00\x00\x01\x01\x00\x02\x03\x02\x02\x02\x01\x03\x03\x03\x02\x01\x02\x01\x01\x00\x00\x01\x00\x01",
+        b"\x00\x01\x00\x00\x01\x01\x00\x02\x03\x02\x02\x02\x01\x03\x03\x03\x02\x01\x02\x01\x01\x00\x00\x01\x00\x01\x00\x00\x01",
         n as usize,
     )
 }
@@ -172,7 +186,7 @@ fn most(n: u32) -> u32
     ensures { λ r. ⌜ r ≡ getD most n 0 ⌝ }
 {
     cells::byte(
-        b"\x00\x01\x40\x00\x01\x01\x00\x02\x03\x02\x02\x02\x01\x03\x03\x03\x02\x01\x02\x01\x01\x00\x00\x01\x40\x01",
+        b"\x00\x01\x40\x00\x01\x01\x00\x02\x03\x02\x02\x02\x01\x03\x03\x03\x02\x01\x02\x01\x01\x00\x00\x01\x40\x01\x00\x00\x01",
         n as usize,
     )
 }
@@ -182,7 +196,7 @@ pub fn names_filler(n: u32) -> u32
     ensures { λ r. ⌜ r ≡ getD fillers n 0 ⌝ }
 {
     cells::byte(
-        b"\x00\x00\x00\x00\x00\x00\x01\x01\x00\x00\x00\x00\x00\x00\x01\x00\x00\x00\x00\x00\x00\x00\x00\x01\x01\x00",
+        b"\x00\x00\x00\x00\x00\x00\x01\x01\x00\x00\x00\x00\x00\x00\x01\x00\x00\x00\x00\x00\x00\x00\x00\x01\x01\x00\x00\x00\x00",
         n as usize,
     )
 }
@@ -197,9 +211,9 @@ fn takes(n: u32, k: u32) -> bool
     k <= most(n)
 }
 
-// Whether call n may stand here with k arguments, the first of them a: pages once, and no call before it.
-fn allowed(made: bool, n: u32, k: u32, a: u32) -> bool
-    ensures { λ r. ⌜ r ≡ allowed made n k a ⌝ }
+// Whether call n may stand here with k arguments, the first of them a: pages while no store is made, and no call before a pages line; the words that are no calls anywhere.
+fn allowed(stage: u32, n: u32, k: u32, a: u32) -> bool
+    ensures { λ r. ⌜ r ≡ allowed stage n k a ⌝ }
 {
     if n == 0 {
         return false;
@@ -208,12 +222,15 @@ fn allowed(made: bool, n: u32, k: u32, a: u32) -> bool
         return false;
     }
     if n == 1 {
-        if made {
+        if 2 <= stage {
             return false;
         }
         return a <= 257;
     }
-    made
+    if LAST_CALL < n {
+        return true;
+    }
+    0 < stage
 }
 
 // A line with filler 0 and no arguments.
@@ -259,12 +276,12 @@ fn arguments(s: &[u8], at: usize, n: u32, filler: u32) -> Line
 }
 
 // The same where the call may stand here. The contract holds for each word w that names call n.
-fn called(s: &[u8], at: usize, n: u32, filler: u32, made: bool) -> Line
-    ensures { λ r. ⌜ ((w : List ℕ) → n ≡ callOf w → r ≡ called made filler w (tokens (drop at (now (s .entry))))) ⌝ }
+fn called(s: &[u8], at: usize, n: u32, filler: u32, stage: u32) -> Line
+    ensures { λ r. ⌜ ((w : List ℕ) → n ≡ callOf w → r ≡ called stage filler w (tokens (drop at (now (s .entry))))) ⌝ }
 {
     let l = arguments(s, at, n, filler);
     let args = l.args;
-    if allowed(made, l.call, l.count, args[0]) {
+    if allowed(stage, l.call, l.count, args[0]) {
         l
     } else {
         bare(NO_CALL)
@@ -272,8 +289,8 @@ fn called(s: &[u8], at: usize, n: u32, filler: u32, made: bool) -> Line
 }
 
 // What the words from `at` on say, after `as`: a filler, and a call that names one.
-fn acting(s: &[u8], at: usize, made: bool) -> Line
-    ensures { λ r. ⌜ r ≡ acting made (tokens (drop at (now (s .entry)))) ⌝ }
+fn acting(s: &[u8], at: usize, stage: u32) -> Line
+    ensures { λ r. ⌜ r ≡ acting stage (tokens (drop at (now (s .entry)))) ⌝ }
 {
     let p = word(s, at);
     let from = p.from;
@@ -294,15 +311,15 @@ fn acting(s: &[u8], at: usize, made: bool) -> Line
     }
     let n = call_of(&s[begin..end]);
     if names_filler(n) == 1 {
-        called(s, end, n, filler, made)
+        called(s, end, n, filler, stage)
     } else {
         bare(NO_CALL)
     }
 }
 
-// What a line says, where `made` tells whether pages came before it.
-pub fn scan(s: &[u8], made: bool) -> Line
-    ensures { λ r. ⌜ r ≡ scanned made (now (s .entry)) ⌝ }
+// What a line says; the stage is 0 where no pages line came before it, 1 where make refused the last one, and 2 where a store is made.
+fn scan(s: &[u8], stage: u32) -> Line
+    ensures { λ r. ⌜ r ≡ scanned stage (now (s .entry)) ⌝ }
 {
     let p = word(s, 0);
     let from = p.from;
@@ -311,8 +328,43 @@ pub fn scan(s: &[u8], made: bool) -> Line
         return bare(0);
     }
     if check::same(&s[from..to], b"as") {
-        return acting(s, to, made);
+        return acting(s, to, stage);
     }
     let n = call_of(&s[from..to]);
-    called(s, to, n, 0, made)
+    called(s, to, n, 0, stage)
+}
+
+// The same of a line that is not too long.
+fn fitting(s: &[u8], stage: u32) -> Line
+    ensures { λ r. ⌜ r ≡ fitting stage (now (s .entry)) ⌝ }
+{
+    if LONGEST_LINE < s.len() {
+        bare(NO_CALL)
+    } else {
+        scan(s, stage)
+    }
+}
+
+// A line without the byte order mark in front of it.
+fn unmarked(s: &[u8]) -> &[u8]
+    ensures { λ r. ⌜ now r ≡ unmarked (now (s .entry)) ⌝ }
+{
+    if s.len() < 3 {
+        return s;
+    }
+    if check::same(&s[0..3], b"\xEF\xBB\xBF") {
+        return &s[3..];
+    }
+    s
+}
+
+// What a line says, where `first` tells whether it is the first one, which may have a byte order mark.
+pub fn heard(s: &[u8], first: bool, stage: u32) -> Line
+    ensures { λ r. ⌜ r ≡ heard stage first (now (s .entry)) ⌝ }
+{
+    if first {
+        fitting(unmarked(s), stage)
+    } else {
+        fitting(s, stage)
+    }
 }

@@ -1,4 +1,3 @@
-use mathlib.Core.Logic.{⊎-elim}
 use borrow.Author.Needs.{needs}
 use native.Mathlib.Omega.{arith}
 use Rattle.lines.proofs.Laws.{laid}
@@ -6,17 +5,16 @@ use Rattle.lines.proofs.add.Statement.{statement}
 use Rattle.lines.proofs.add.Tie as tie
 
 returns : tie.Need-returns
-returns c =
+returns c = record { end = λ h. absurd (omega arith); text = λ h. absurd (omega arith) }
+
+returns-2 : tie.Need-returns-2
+returns-2 c = record { end = λ h. absurd (omega arith); text = λ h. absurd (omega arith) }
+
+returns-3 : tie.Need-returns-3
+returns-3 c =
     let before = c .before .before .before .before .before .before .before .before in
     let copied = c .before .before .copy in
     rw (copied .ensures .0) (laid (before .args .out .now) (before .args .s .now) (copied .last .1 .0) _ _ (before .args .at) (search needs) (copied .ensures .1))
 
-returns-2 : tie.Need-returns-2
-returns-2 c =
-    ⊎-elim
-    (λ w. record { end = λ h. absurd (omega arith); text = λ h. absurd (omega arith) })
-    (λ w. record { end = λ h. absurd (omega arith); text = λ h. absurd (omega arith) })
-    (c .before .before .before .if1 .came)
-
 pub add-spec : {M : Type 1} → statement M
-add-spec = tie.close (tie.spec (λ c. search needs) (λ c. search needs) (λ c. search needs) (λ c. search needs) (λ c κs. search needs) (λ c. search needs) (λ c. search needs) returns (λ c κs. search needs) (λ c κs. search needs) (λ c. search needs) returns-2)
+add-spec = tie.close (tie.spec returns (λ c. search needs) returns-2 (λ c. search needs) (λ c. search needs) (λ c. search needs) (λ c κs. search needs) (λ c. search needs) (λ c. search needs) returns-3)

@@ -1,5 +1,5 @@
 use borrow.Author.Needs.{needs}
-use Rattle.lines.proofs.Laws.{added}
+use Rattle.lines.specs.Laws.Adding.{added}
 use Rattle.lines.specs.Lines.{column}
 use Rattle.lines.proofs.column.Statement.{statement}
 use Rattle.lines.proofs.column.Tie as tie

@@ -43,7 +43,7 @@ for-filler : (c : tie.After-called)
     let a = f .before .before .before .args in
     let q = w .word2 .result in
     let p = f .before .word .result in
-    c .called .result ≡ called (a .made) (value (take (p .to - p .from) (drop (p .from) (a .s .now)))) (take (q .to - q .from) (drop (q .from) (a .s .now))) (tokens (drop (q .to) (a .s .now)))
+    c .called .result ≡ called (a .stage) (value (take (p .to - p .from) (drop (p .from) (a .s .now)))) (take (q .to - q .from) (drop (q .from) (a .s .now))) (tokens (drop (q .to) (a .s .now)))
 for-filler c =
     let n = c .before .before .before in
     rw (← n .before .before .before .before .before .number .ensures) (c .called .ensures _ (n .call-of .ensures))

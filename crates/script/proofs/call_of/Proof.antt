@@ -14,4 +14,4 @@ returns-3 : tie.Need-returns-3
 returns-3 c = c .named2 .ensures ∙ great-named _ _ (c .before .before .before .number .ensures) (c .before .if2 .left)
 
 pub call-of-spec : {M : Type 1} → statement M
-call-of-spec = tie.close (tie.spec (λ c κs. search needs) (λ c κs. search needs) returns (λ c. search needs) (λ c κs. search needs) returns-2 returns-3)
+call-of-spec = tie.close (tie.spec (λ c κs. search needs) (λ c κs. search needs) returns (λ c. search needs) (λ c. search needs) (λ c κs. search needs) returns-2 returns-3)

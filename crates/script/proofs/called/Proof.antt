@@ -13,7 +13,7 @@ use Rattle.script.proofs.called.Tie as tie
 meant : (c : tie.After-allowed)
     → let l = c .before .before in
     let a = l .before .before .args in
-    (w : List ℕ) → a .n ≡ callOf w → pick (c .allowed .result) (l .arguments .result) bad ≡ called (a .made) (a .filler) w (tokens (drop (a .at) (a .s .now)))
+    (w : List ℕ) → a .n ≡ callOf w → pick (c .allowed .result) (l .arguments .result) bad ≡ called (a .stage) (a .filler) w (tokens (drop (a .at) (a .s .now)))
 meant c w e = called-is _ _ _ _ _ _ (rw e at (c .before .before .arguments .ensures)) (c .allowed .ensures)
 
 returns : tie.Need-returns

@@ -10,12 +10,12 @@ use lib.Dec.{eqb}
 use lib.ListN.{getD, replicate}
 use Rattle.lists.specs.Lists.{pick, anyOf, every, joined, from, upTo, equal}
 use Rattle.script.specs.declared.Line.{Line}
-use Rattle.script.specs.Script.{bytes, blank, inWord, tokens, value, lastCall, names, least, most, fillers, placed, callOf, takes, allowed, zeros, line, bad, given, called, acting, said, scanned}
+use Rattle.script.specs.Script.{bytes, blank, inWord, tokens, value, lastCall, names, least, most, fillers, placed, callOf, takes, allowed, zeros, line, bad, given, called, acting, said, scanned, mark, unmarked, fitting, heard}
 
--- a line, whether a store is made before it, and the call, the filler and the arguments that it says
+-- a line, its stage, and the call, the filler and the arguments that it says
 record Row : Type 0 where
   text : List ℕ
-  made : Bool
+  stage : ℕ
   call : ℕ
   filler : ℕ
   args : List ℕ
@@ -24,18 +24,22 @@ alike : Line → Line → Bool
 alike a b = eqb (a .call) (b .call) && eqb (a .filler) (b .filler) && eqb (a .count) (b .count) && equal eqb (a .args) (b .args)
 
 right : Row → Bool
-right r = alike (scanned (r .made) (r .text)) (line (r .call) (r .filler) (r .args))
+right r = alike (scanned (r .stage) (r .text)) (line (r .call) (r .filler) (r .args))
 
 says : String → ℕ → List ℕ → Row
-says t n vs = record { text = bytes t; made = true; call = n; filler = 0; args = vs }
+says t n vs = record { text = bytes t; stage = 2; call = n; filler = 0; args = vs }
 
 -- a line before the store is made
 opens : String → ℕ → List ℕ → Row
-opens t n vs = record { text = bytes t; made = false; call = n; filler = 0; args = vs }
+opens t n vs = record { text = bytes t; stage = 0; call = n; filler = 0; args = vs }
+
+-- a line after a `pages` that make refused
+retries : String → ℕ → List ℕ → Row
+retries t n vs = record { text = bytes t; stage = 1; call = n; filler = 0; args = vs }
 
 -- a line that names the filler f
 acts : String → ℕ → ℕ → List ℕ → Row
-acts t f n vs = record { text = bytes t; made = true; call = n; filler = f; args = vs }
+acts t f n vs = record { text = bytes t; stage = 2; call = n; filler = f; args = vs }
 
 -- call n by its name, with k arguments, each of them 7
 sevens : ℕ → ℕ → List ℕ
@@ -51,24 +55,28 @@ table =
     ∷ says "1 2" 255 [] ∷ says "26 2" 255 [] ∷ says "23 2" 23 (2 ∷ []) ∷ says "declare" 2 [] ∷ says "declare 1 0" 2 (1 ∷ 0 ∷ [])
     ∷ says "delete_all 3 4 5" 24 (3 ∷ 4 ∷ 5 ∷ []) ∷ says "24 2" 24 (2 ∷ []) ∷ says "delete_all" 24 [] ∷ says "delete_all 3 x" 255 []
     ∷ says "locate 0" 25 (0 ∷ []) ∷ says "25 3" 25 (3 ∷ []) ∷ says "locate" 255 [] ∷ says "locate 0 1" 255 []
-    ∷ record { text = sevens 2 64; made = true; call = 2; filler = 0; args = replicate 64 7 } ∷ record { text = sevens 2 65; made = true; call = 255; filler = 0; args = [] }
+    ∷ record { text = sevens 2 64; stage = 2; call = 2; filler = 0; args = replicate 64 7 } ∷ record { text = sevens 2 65; stage = 2; call = 255; filler = 0; args = [] }
     ∷ acts "as 2 set_pointer 0 0 1" 2 14 (0 ∷ 0 ∷ 1 ∷ []) ∷ acts "as 2 14 0 0 1" 2 14 (0 ∷ 0 ∷ 1 ∷ []) ∷ acts "as 3 drop" 3 6 [] ∷ says "drop" 6 []
     ∷ acts "as 4294967295 drop" 4294967295 6 [] ∷ says "as 4294967296 drop" 255 [] ∷ says "as x drop" 255 [] ∷ says "as 1x drop" 255 []
     ∷ says "as 1 push 1" 255 [] ∷ says "as drop" 255 [] ∷ says "as" 255 [] ∷ says "as 1" 255 [] ∷ says "as 1 # drop" 255 [] ∷ says "as 1 as 2 drop" 255 []
     ∷ acts "as 1 delete_all 3 4" 1 24 (3 ∷ 4 ∷ []) ∷ acts "as 3 24" 3 24 [] ∷ acts "\tas 003  hand_back 1 2\r" 3 7 (1 ∷ 2 ∷ []) ∷ acts "as 0 delete 5 # x" 0 23 (5 ∷ [])
     ∷ says "as 1 drop 1" 255 [] ∷ says "as 1 delete" 255 [] ∷ opens "as 1 drop" 255 [] ∷ says "as 1 pages 3" 255 [] ∷ opens "as 1 pages 3" 255 []
+    ∷ retries "pages 3" 1 (3 ∷ []) ∷ retries "pages 258" 255 [] ∷ retries "push 2" 5 (2 ∷ []) ∷ retries "as 1 drop 1" 255 []
+    ∷ opens "summary" 26 [] ∷ retries "summary # so far" 26 [] ∷ says "summary" 26 [] ∷ says "summary 1" 255 [] ∷ opens "help" 27 [] ∷ says "help" 27 [] ∷ says "help push" 255 []
+    ∷ opens "why 19" 28 (19 ∷ []) ∷ says "why 4294967295" 28 (4294967295 ∷ []) ∷ says "why 4294967296" 255 [] ∷ says "why" 255 [] ∷ says "why not" 255 [] ∷ says "why 1 2" 255 []
+    ∷ says "as 1 summary" 255 [] ∷ says "as 1 why 2" 255 [] ∷ says "27" 255 [] ∷ says "28 1" 255 [] ∷ says "255" 255 [] ∷ says "Summary" 255 []
     ∷ says "1 drop" 255 [] ∷ says "drop as 1" 255 [] ∷ says "asdrop" 255 [] ∷ says "As 1 drop" 255 [] ∷ []
 
 all-right : every right table ≡ true
-unfolding right table alike says opens acts sevens bytes blank inWord tokens value names least most fillers placed callOf takes allowed zeros line bad given called acting said scanned
+unfolding right table alike says opens retries acts sevens bytes blank inWord tokens value names least most fillers placed callOf takes allowed zeros line bad given called acting said scanned
 all-right = refl
 
 -- call n by its name with k arguments
 byName : ℕ → ℕ → Row
-byName n k = record { text = sevens n k; made = true; call = n; filler = 0; args = replicate k 7 }
+byName n k = record { text = sevens n k; stage = 2; call = n; filler = 0; args = replicate k 7 }
 
 tooMany : ℕ → Row
-tooMany n = record { text = sevens n (getD most n 0 + 1); made = true; call = 255; filler = 0; args = [] }
+tooMany n = record { text = sevens n (getD most n 0 + 1); stage = 2; call = 255; filler = 0; args = [] }
 
 -- each call with the least and the most number of arguments that it takes, and with one more
 names-right : every (λ n. right (byName n (getD least n 0)) && right (byName n (getD most n 0)) && right (tooMany n)) (from 2 (lastCall - 1)) ≡ true
@@ -84,9 +92,39 @@ asSeven : ℕ → Row
 asSeven n =
     let text = bytes "as 7 " ++ sevens n (getD least n 0) in
     pick (anyOf (eqb n) ofFillers)
-    record { text = text; made = true; call = n; filler = 7; args = replicate (getD least n 0) 7 }
-    record { text = text; made = true; call = 255; filler = 0; args = [] }
+    record { text = text; stage = 2; call = n; filler = 7; args = replicate (getD least n 0) 7 }
+    record { text = text; stage = 2; call = 255; filler = 0; args = [] }
 
 fillers-right : every (λ n. right (asSeven n)) (from 1 lastCall) ≡ true
 unfolding right asSeven ofFillers sevens alike bytes blank inWord tokens value names least most fillers placed callOf takes allowed zeros line bad given called acting said scanned
 fillers-right = refl
+
+-- ---- a byte order mark, and lines that are too long
+
+-- a line as a script has it, the first or another one
+hears : Bool → List ℕ → ℕ → List ℕ → Bool
+hears first l n vs = alike (heard 2 first l) (line n 0 vs)
+
+-- `drop`, a comment and so many bytes more
+padded : ℕ → List ℕ
+padded n = bytes "drop#" ++ replicate n 65
+
+heard-right :
+    every (λ t. t)
+    (
+    hears true (mark ++ bytes "push 2") 5 (2 ∷ [])
+    ∷ hears false (mark ++ bytes "push 2") 255 []
+    ∷ hears true (mark ++ mark ++ bytes "push 2") 255 []
+    ∷ hears true mark 0 []
+    ∷ hears true (239 ∷ 187 ∷ []) 255 []
+    ∷ hears true (239 ∷ 187 ∷ 32 ∷ []) 255 []
+    ∷ hears false (padded 4091) 6 []
+    ∷ hears false (padded 4092) 255 []
+    ∷ hears true (mark ++ padded 4091) 6 []
+    ∷ hears true (mark ++ padded 4092) 255 []
+    ∷ hears false (replicate 4096 32) 0 []
+    ∷ hears false (replicate 4097 32) 255 []
+    ∷ []
+    ) ≡ true
+unfolding hears padded alike bytes blank inWord tokens value names least most fillers placed callOf takes allowed zeros line bad given called acting said scanned unmarked fitting heard
+heard-right = refl

@@ -1,2 +1,0 @@
--- The lines and calls of a text, computed.
-pub mod Examples

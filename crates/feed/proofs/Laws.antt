@@ -1,0 +1,97 @@
+-- From what the functions gave to what scripts do.
+-- Assumes nothing.
+use mathlib.Core.Path.{_≡_, refl, sym, ap, subst, _∙_}
+use mathlib.Core.List.{List, [], _∷_, _++_, append-nil}
+use Prim.Native.Nat.{ℕ, zero, suc, _+_, _-_, _≤_, _<_, min}
+use native.Mathlib.Omega.{arith}
+use lib.Dec.{leb}
+use lib.ListN.{length, getD, take, drop, length-take}
+use lib.Seq.{take-append-add, length-take-le}
+use borrow.Author.Tests.{leb-true, leb-false, le-leb, lt-leb}
+use Rattle.lists.specs.Laws.Tests.{by-test}
+use Rattle.model.specs.Model.{Answer}
+use Rattle.state.specs.declared.State.{State}
+use Rattle.state.specs.declared.Reply.{Reply}
+use Rattle.outcomes.specs.Store.{Store}
+use Rattle.outcomes.specs.Outcome.{MakeOutcome, store, blank}
+use Rattle.script.specs.declared.Line.{Line}
+use Rattle.script.specs.Script.{heard}
+use Rattle.lines.specs.Lines.{Added}
+use Rattle.actions.specs.Acts.{Acts, wordsAfter}
+use Rattle.actions.specs.Laws.Fronts.{front-same}
+use Rattle.feed.specs.declared.Tally.{Tally}
+use Rattle.feed.specs.Scripted.{kept, tallied, answer, Talk, Scripted}
+use Rattle.feed.specs.Laws.Lengths.{answer-length}
+use Rattle.feed.specs.Laws.Steps.{piece, step-piece, step-line, answered}
+
+-- ---- room
+
+pub room-here : (n used : ℕ) → 1024 ≤ n → leb used (n - 1024) ≡ leb (used + 1024) n
+room-here n used h =
+    by-test (leb used (n - 1024))
+    (λ q. q ∙ sym (le-leb (used + 1024) n (omega (arith, leb-true used (n - 1024) q))))
+    (λ q. q ∙ sym (lt-leb (used + 1024) n (omega (arith, leb-false used (n - 1024) q))))
+
+-- the first line always finds room
+pub onward : (at used n : ℕ) → (at ≡ 0 → used ≡ 0) → n < used + 1024 → 1024 ≤ n → 0 < at
+onward zero used n e h k = absurd (omega (arith, e refl))
+onward (suc at) used n e h k = omega arith
+
+pub added-none : (l : List ℕ) (at : ℕ) → Added l at [] l at
+added-none l at = record { end = λ h. omega arith; text = λ h. sym (append-nil (take at l)) }
+
+-- ---- what is kept of a line
+
+kept-more : (n : ℕ) (x y : List ℕ) → length x ≤ n → take n (x ++ y) ≡ x ++ take (n - length x) y
+kept-more n x y h = let e : n ≡ length x + (n - length x) = omega arith in ap (λ k. take k (x ++ y)) e ∙ take-append-add x y (n - length x)
+
+-- from, n and r are what functions gave: how many bytes are kept, how many of s find room, and how many are kept then
+pub keeps : (line m s : List ℕ) (held from n r : ℕ) → length line ≡ 4100 → from ≡ min held 4100 → n ≡ min (length s) (4100 - from) → Added line from (take n s) m r
+    → (r ≤ 4100) × (take r m ≡ kept (take held line ++ s))
+keeps line m s held from n r h ef en a =
+    let ls : length (take n s) ≡ n = length-take-le n s (omega (arith, en)) in
+    let lk : length (take held line) ≡ from = length-take held line ∙ ap (min held) h ∙ sym ef in
+    let fits : from + length (take n s) ≤ length line = omega (arith, ls, h, ef, en) in
+    let cut : take from line ≡ take held line = front-same held line from (ef ∙ ap (min held) (sym h)) in
+    let cut-s : take n s ≡ take (4100 - from) s = front-same (4100 - from) s n (omega (arith, en)) in (
+      omega (arith, a .end fits, ls, ef, en),
+      a .text fits ∙ rw (cut, cut-s) (sym (kept-more 4100 (take held line) s (omega (arith, lk, ef)) ∙ ap (λ k. take held line ++ take (4100 - k) s) lk)),
+    )
+
+-- ---- the session that begins
+
+pub unmade : (a : Answer) (s : State) (h : List ℕ) → MakeOutcome (0 ∷ []) a (store s h) → s ≡ blank 0 0
+unfolding MakeOutcome
+unmade a s h q = ap (λ S. S .state) (q .1)
+
+-- ---- one line more
+
+-- the same of a piece that ends with the chunk: k bytes of m are kept then
+pub begun-more : (t : Talk) (chunk line m o : List ℕ) (at end held k : ℕ) (c : Tally) (S : Store) → end ≡ at + length (piece (drop at chunk)) → length line ≡ 4100
+    → Scripted t (take at chunk) o (record { begun = take held line; tally = c; store = S }) → take k m ≡ kept (take held line ++ take (end - at) (drop at chunk))
+    → Scripted t (take end chunk) o (record { begun = take k m; tally = c; store = S })
+begun-more t chunk line m o at end held k c S ee ll g ek =
+    subst (λ b. Scripted t (take end chunk) o (record { begun = b; tally = c; store = S })) (sym ek)
+    (step-piece chunk at end ee t o (take held line) c S (omega (arith, ll, length-take held line)) g)
+
+-- From a session that the bytes up to `at` led to: what the functions gave for the line that ends at `end`. k bytes of m are what is kept of it, x is what it says, r the reply, u the state, e how much of the output is used then.
+pub turned : (t : Talk) (chunk line m out out' memory memory' : List ℕ) (at end used e held k words w : ℕ) (c d : Tally) (s u : State) (x : Line) (r : Reply)
+    → end ≡ at + length (piece (drop at chunk)) → end < length chunk → length line ≡ 4100
+    → Scripted t (take at chunk) (take used out) (record { begun = take held line; tally = c; store = store s (take words memory) })
+    → take k m ≡ kept (take held line ++ take (end - at) (drop at chunk)) → x ≡ heard (c .stage) (c .first) (take k m)
+    → Acts x (store s (take words memory)) r (store u (take (wordsAfter (x .call) (getD (x .args) 0 0) (r .refusal) words) memory'))
+    → Added out used (answer c (x .call) (getD (x .args) 0 0) r) out' e → used + 1024 ≤ length out → d ≡ tallied c (x .call) (r .refusal)
+    → w ≡ wordsAfter (x .call) (getD (x .args) 0 0) (r .refusal) words
+    → (e ≤ length out) × Scripted t (take (end + 1) chunk) (take e out') (record { begun = []; tally = d; store = store u (take w memory') })
+turned t chunk line m out out' memory memory' at end used e held k words w c d s u x r ee le ll g ek ex a add fits ed ew =
+    let q = answer c (x .call) (getD (x .args) 0 0) r in
+    let lq = answer-length c (x .call) (getD (x .args) 0 0) r in
+    let n = wordsAfter (x .call) (getD (x .args) 0 0) (r .refusal) words in
+    let l = kept (take held line ++ take (end - at) (drop at chunk)) in
+    let lk : length (take held line) ≤ 4100 = omega (arith, ll, length-take held line) in
+    let z = answered c (store s (take words memory)) (store u (take n memory')) l x r d (ex ∙ ap (heard (c .stage) (c .first)) ek) a ed in
+    let y = step-line chunk at end ee t (take used out) (take held line) c (store s (take words memory)) lk g le q d (store u (take n memory')) z in (
+      omega (arith, add .end (omega (arith, lq, fits)), lq, fits),
+      subst (λ o. Scripted t (take (end + 1) chunk) o (record { begun = []; tally = d; store = store u (take w memory') })) (sym (add .text (omega (arith, lq, fits))))
+          (subst (λ n. Scripted t (take (end + 1) chunk) (take used out ++ q) (record { begun = []; tally = d; store = store u (take n memory') })) (sym ew) y),
+    )

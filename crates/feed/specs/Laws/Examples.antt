@@ -1,0 +1,88 @@
+-- The lines, the calls and the answers of small scripts, computed.
+-- Assumes nothing.
+use mathlib.Core.Path.{_≡_, refl}
+use mathlib.Core.Bool.{false}
+use mathlib.Core.List.{List, [], _∷_, _++_}
+use Prim.Native.Nat.{ℕ}
+use Prim.Native.String.{String}
+use lib.ListN.{replicate}
+use Rattle.lists.specs.Lists.{joined}
+use Rattle.model.specs.Model.{declare, push, dropFrame, handBack, setPointer, delete, deleteAll, refusedBy}
+use Rattle.pages.specs.Pages.{wrongLength, wrongLengthIn}
+use Rattle.state.specs.declared.Reply.{Reply}
+use Rattle.outcomes.specs.Store.{Store}
+use Rattle.outcomes.specs.Outcome.{Outcome, MakeOutcome, badLength, checks, refusal, store, blank}
+use Rattle.store.specs.Dispatch.{lastCall as lastNumber, decoded}
+use Rattle.script.specs.Script.{bytes, blank as isBlank, inWord, tokens, value, lastCall, names, least, most, fillers, placed, callOf, takes, allowed, zeros, line, bad, given, called, acting, said, scanned, unmarked, fitting, heard}
+use Rattle.lines.specs.Lines.{numeral, decimal, column, lineOf, badOf, summaryOf}
+use Rattle.guide.specs.Guide.{help, whyOf}
+use Rattle.actions.specs.Acts.{fillerPlace, callsOf, printed, Replied, Called, Makes, Acts}
+use Rattle.feed.specs.declared.Tally.{Tally}
+use Rattle.feed.specs.Scripted.{ended, left, isCalled, tallied, answer, Talk, Scripted, start, scripted}
+
+-- ---- lines
+
+-- a newline ends a line, and what follows the last one is kept
+newlines : (ended [] [] ≡ []) × (ended [] (10 ∷ []) ≡ [] ∷ []) × (ended [] (97 ∷ 10 ∷ 10 ∷ 98 ∷ []) ≡ (97 ∷ []) ∷ [] ∷ []) × (left [] (97 ∷ 10 ∷ 10 ∷ 98 ∷ []) ≡ 98 ∷ [])
+unfolding ended left
+newlines = (refl, refl, refl, refl)
+
+-- what was kept is the front of the first line
+goes-on : (ended (bytes "pu") (bytes "sh 1" ++ (10 ∷ bytes "dr")) ≡ bytes "push 1" ∷ []) × (left (bytes "pu") (bytes "sh 1" ++ (10 ∷ bytes "dr")) ≡ bytes "dr")
+unfolding ended left bytes
+goes-on = (refl, refl)
+
+-- of a long line 4,100 bytes are kept, and the rest is skipped up to its newline
+long : (left (replicate 4099 65) (bytes "AAA") ≡ replicate 4100 65) × (ended (replicate 4099 65) (bytes "AAA" ++ (10 ∷ bytes "drop") ++ (10 ∷ [])) ≡ replicate 4100 65 ∷ bytes "drop" ∷ [])
+unfolding ended left bytes
+long = (refl, refl)
+
+-- ---- calls
+
+lines : List String → List (List ℕ)
+lines ts = joined (λ t. bytes t ∷ []) ts
+
+-- a call by name, a line that is no call, a comment, `pages` again, a call by number, a word that is no call
+calls : scripted (lines ("push 1" ∷ "pull 1" ∷ "# push 1" ∷ "pages 1" ∷ "14 0 0 1" ∷ "summary" ∷ [])) ≡ push 1 ∷ setPointer 0 0 1 0 ∷ []
+unfolding lines scripted callsOf decoded bytes isBlank inWord tokens value names least most fillers placed callOf takes allowed zeros line bad given called acting said scanned unmarked fitting heard fillerPlace
+calls = refl
+
+-- a call that takes a list has all the arguments of its line, and may have none
+lists : scripted (lines ("declare 1 0" ∷ "delete_all 3 4 5" ∷ "delete_all" ∷ [])) ≡ declare (1 ∷ 0 ∷ []) ∷ deleteAll (3 ∷ 4 ∷ 5 ∷ []) 0 ∷ deleteAll [] 0 ∷ []
+unfolding lines scripted callsOf decoded bytes isBlank inWord tokens value names least most fillers placed callOf takes allowed zeros line bad given called acting said scanned unmarked fitting heard fillerPlace
+lists = refl
+
+-- a filler named in front goes where its call has it, also beside a list; without one it is 0, and what follows `as` before another call is no call
+acted : scripted (lines ("as 3 drop" ∷ "as 1 hand_back 4 5" ∷ "as 2 set_pointer 6 7 8" ∷ "as 4 23 9" ∷ "as 1 delete_all 3 2" ∷ "as 1 push 1" ∷ "drop" ∷ []))
+    ≡ dropFrame 3 ∷ handBack 4 5 1 ∷ setPointer 6 7 8 2 ∷ delete 9 4 ∷ deleteAll (3 ∷ 2 ∷ []) 1 ∷ dropFrame 0 ∷ []
+unfolding lines scripted callsOf decoded bytes isBlank inWord tokens value names least most fillers placed callOf takes allowed zeros line bad given called acting said scanned unmarked fitting heard fillerPlace
+acted = refl
+
+-- the scanner's table ends at the last number that is dispatched
+same-last : lastCall ≡ lastNumber
+same-last = refl
+
+-- ---- a whole script
+
+text : List String → List ℕ
+text ts = joined (λ t. bytes t ++ (10 ∷ [])) ts
+
+unmade : Store
+unmade = store (blank 0 0) []
+
+reply : ℕ → Reply
+reply n = record { refusal = n; a = 0; b = 0; c = 0; d = 0 }
+
+-- a call before `pages`, a `pages` that make refuses, a call after it, a word, an empty line, `pages` again, a summary, and a line that has not ended
+session : Scripted start (text ("push 1" ∷ "pages 0" ∷ "push 1" ∷ "why 0" ∷ "" ∷ "pages 0" ∷ "summary" ∷ []) ++ bytes "dr")
+    (text ("? 1" ∷ "1 1 0 0 0 0" ∷ "2 21 0 0 0 0" ∷ "# 0 accepted" ∷ "3 1 0 0 0 0" ∷ "= 3 0 3 1" ∷ []))
+    (record { begun = bytes "dr"; tally = record { first = false; stage = 1; lines = 7; accepted = 0; refused = 3; bad = 1 }; store = unmade })
+unfolding text unmade reply start ended left Acts Called isCalled tallied answer bytes isBlank inWord tokens value names least most fillers placed callOf takes allowed zeros line bad given called acting said scanned unmarked fitting heard fillerPlace numeral decimal column lineOf badOf summaryOf whyOf decoded Outcome MakeOutcome checks refusal badLength wrongLength wrongLengthIn blank
+session =
+    let none : (reply 24 ≡ printed 0 (refusedBy 24)) × (unmade ≡ unmade) = (refl, refl) in
+    let make : Makes 0 (reply 1) unmade = ([], refusedBy 1, unmade, refl, (refl, refl), refl, refl) in
+    let call : Replied 5 (push 1) unmade (reply 21) unmade = (refusedBy 21, (refl, refl), refl) in
+    record {
+      turns = (_, _, _, _, (reply 24, none, refl, refl), (_, _, _, _, (reply 1, make, refl, refl), (_, _, _, _, (reply 21, call, refl, refl), (_, _, _, _, (reply 24, none, refl, refl), (_, _, _, _, (reply 24, none, refl, refl), (_, _, _, _, (reply 1, make, refl, refl), (_, _, _, _, (reply 24, none, refl, refl), (refl, refl, refl), refl), refl), refl), refl), refl), refl), refl);
+      begun = refl;
+    }

@@ -1,0 +1,119 @@
+-- What a script does and what it prints, over its bytes: its lines, what each does to the one store, and its answer.
+-- Assumes nothing.
+use mathlib.Core.Path.{_≡_}
+use mathlib.Core.Bool.{Bool, true, false, not, _&&_}
+use mathlib.Core.List.{List, [], _∷_, _++_}
+use Prim.Native.Nat.{ℕ, _+_, _%_, _≤_, _<_}
+use lib.Dec.{eqb, leb}
+use lib.ListN.{length, getD, take}
+use Rattle.lists.specs.Lists.{bit, pick, joined}
+use Rattle.model.specs.Model.{Call}
+use Rattle.state.specs.declared.Reply.{Reply}
+use Rattle.outcomes.specs.Store.{Store}
+use Rattle.outcomes.specs.Outcome.{store, blank}
+use Rattle.script.specs.declared.Line.{Line}
+use Rattle.script.specs.Script.{lastCall, summaryWord, helpWord, whyWord, noCall, heard}
+use Rattle.lines.specs.Lines.{lineOf, badOf, summaryOf}
+use Rattle.guide.specs.Guide.{help, whyOf}
+use Rattle.actions.specs.Acts.{callsOf, Acts}
+use Rattle.feed.specs.declared.Session.{Session}
+use Rattle.feed.specs.declared.Tally.{Tally}
+
+-- ---- lines
+
+-- the bytes that are kept of a line that has not ended: enough to see, also behind a byte order mark, that it is too long
+abbrev pub kept : List ℕ → List ℕ
+kept l = take 4100 l
+
+-- the lines that end in a text, where k is what is kept of the first one so far
+unfoldable pub ended : List ℕ → List ℕ → List (List ℕ)
+ended k [] = []
+ended k (b ∷ l) = pick (eqb b 10) (k ∷ ended [] l) (ended (kept (k ++ (b ∷ []))) l)
+
+-- what is kept of the line that has not ended after it
+unfoldable pub left : List ℕ → List ℕ → List ℕ
+left k [] = k
+left k (b ∷ l) = left (pick (eqb b 10) [] (kept (k ++ (b ∷ [])))) l
+
+-- ---- counting, with 64 bits
+
+abbrev pub wrapped : ℕ → ℕ
+wrapped n = n % 18446744073709551616
+
+-- one more where t
+abbrev pub more : ℕ → Bool → ℕ
+more n t = pick t (wrapped (n + 1)) n
+
+-- the calls so far, make among them
+abbrev pub callCount : Tally → ℕ
+callCount c = wrapped (c .accepted + c .refused)
+
+-- the line is a call, `pages` among them
+unfoldable pub isCalled : ℕ → Bool
+isCalled n = leb 1 n && leb n lastCall
+
+-- what is counted after a line that says n, where a call was answered by the refusal f
+unfoldable pub tallied : Tally → ℕ → ℕ → Tally
+tallied c n f = record {
+  first = false;
+  stage = pick (eqb n 1) (pick (eqb f 0) 2 1) (c .stage);
+  lines = more (c .lines) true;
+  accepted = more (c .accepted) (isCalled n && eqb f 0);
+  refused = more (c .refused) (isCalled n && not (eqb f 0));
+  bad = more (c .bad) (eqb n noCall);
+}
+
+-- ---- answers
+
+-- what is printed for a line that says n, its first argument a: nothing for an empty line, `? K` for one that is no call, what the words that are no calls ask for, and a call's line with its place
+unfoldable pub answer : Tally → ℕ → ℕ → Reply → List ℕ
+answer c n a r =
+    pick (eqb n 0) []
+    (pick (eqb n noCall) (badOf (more (c .lines) true))
+    (pick (eqb n summaryWord) (summaryOf (callCount c) (c .accepted) (c .refused) (c .bad)) (pick (eqb n helpWord) help (pick (eqb n whyWord) (whyOf a) (lineOf (more (callCount c) true) r)))))
+
+-- Line l of a script, where c is counted and S is the store: it prints o, and then d is counted and T is the store.
+abbrev pub Turn : Tally → Store → List ℕ → List ℕ → Tally → Store → Type 0
+Turn c S l o d T =
+    let x = heard (c .stage) (c .first) l in
+    (r : Reply) × Acts x S r T × (o ≡ answer c (x .call) (getD (x .args) 0 0) r) × (d ≡ tallied c (x .call) (r .refusal))
+
+-- lines one after the other, each on what the one before left
+abbrev pub Turns : Tally → Store → List (List ℕ) → List ℕ → Tally → Store → Type 0
+Turns c S [] o d T = (o ≡ []) × (d ≡ c) × (T ≡ S)
+Turns c S (l ∷ ls) o d T = (p : List ℕ) × (q : List ℕ) × (e : Tally) × (U : Store) × Turn c S l p e U × Turns e U ls q d T × (o ≡ p ++ q)
+
+-- ---- scripts
+
+-- a session: what is kept of a line that has not ended, what is counted, and the store
+pub record Talk : Type 0 where
+  pub begun : List ℕ
+  pub tally : Tally
+  pub store : Store
+
+-- the bytes x take the session t to u, and o is printed
+pub record Scripted (t : Talk) (x : List ℕ) (o : List ℕ) (u : Talk) : Type 0 where
+  pub turns : Turns (t .tally) (t .store) (ended (t .begun) x) o (u .tally) (u .store)
+  pub begun : u .begun ≡ left (t .begun) x
+
+-- the session that the code has: the first bytes of a buffer, and as heap the first words of a memory
+abbrev pub talkOf : Session → List ℕ → List ℕ → Talk
+talkOf s line memory = record { begun = take (s .held) line; tally = s .tally; store = store (s .state) (take (s .words) memory) }
+
+-- How far a chunk was fed, with an output buffer: to its end, or until the buffer had less room than the longest answer, 1,024 bytes; and beyond nothing, where there is so much room.
+pub record Fed (chunk : List ℕ) (out : List ℕ) (at used : ℕ) : Type 0 where
+  pub within : at ≤ length chunk
+  pub stops : at < length chunk → length out < used + 1024
+  pub onward : 0 < length chunk → 1024 ≤ length out → 0 < at
+
+-- the session with which a script begins: no byte has come, and no store is made
+unfoldable pub start : Talk
+start = record {
+  begun = [];
+  tally = record { first = true; stage = 0; lines = 0; accepted = 0; refused = 0; bad = 0 };
+  store = store (blank 0 0) [];
+}
+
+-- the calls of lines that follow the one by which a store was made
+unfoldable pub scripted : List (List ℕ) → List Call
+scripted ls = joined (λ l. callsOf (heard 2 false l)) ls

@@ -1,0 +1,1 @@
+// What holds of every script; theorems only, in specs/.
