@@ -5,12 +5,11 @@ use mathlib.Core.Bool.{Bool, true, false}
 use mathlib.Core.List.{List, [], _∷_, _++_, append-nil}
 use Prim.Native.Nat.{ℕ, zero, suc, _*_, _%_, _≤_, _<_, min}
 use native.Mathlib.Omega.{arith}
-use lib.Dec.{eqb, leb}
+use lib.Dec.{eqb}
 use lib.ListN.{length, getD, take, drop, length-take, length-drop, length-append}
 use lib.Seq.{take-at, take-all, length-take-le}
-use borrow.Author.Tests.{ne-eqb, leb-true, leb-false}
+use borrow.Author.Tests.{ne-eqb}
 use Rattle.lists.specs.Lists.{pick}
-use Rattle.lists.specs.Laws.Tests.{by-test}
 use Rattle.model.specs.Model.{Answer, Call, view}
 use Rattle.objects.specs.Objects.{wordCount}
 use Rattle.state.specs.declared.State.{State}

@@ -39,7 +39,7 @@ fn answered(s: Session, memory: &mut [u32], line: &mut [u8], chunk: &[u8], out: 
     }
 }
 
-// Reads what there is, and answers it, until the input ends or a read or a write fails; the newline that the last line may lack comes then. So many reads that no script comes to their end.
+// Reads what there is, and answers it, until the input ends; the newline that the last line may lack comes then. Where a read or a write fails, nothing more is fed: a line that was cut is no line. So many reads that no script comes to their end.
 fn session(memory: &mut [u32], line: &mut [u8], text: &mut [u8], out: &mut [u8])
     requires { ⌜ (length (now memory) ≡ 16448) × (length (now line) ≡ 4100) × (1024 ≤ length (now out)) ⌝ }
 {
@@ -48,6 +48,9 @@ fn session(memory: &mut [u32], line: &mut [u8], text: &mut [u8], out: &mut [u8])
     while 0 < reads {
         reads -= 1;
         let got = libc::read(STDIN_FILENO, text);
+        if got < 0 {
+            return;
+        }
         let n = io::count(got, text);
         if n == 0 {
             break;

@@ -37,6 +37,10 @@ pub onward : (at used n : ℕ) → (at ≡ 0 → used ≡ 0) → n < used + 1024
 onward zero used n e h k = absurd (omega (arith, e refl))
 onward (suc at) used n e h k = omega arith
 
+-- an answer finds it
+pub used-fits : (c : Tally) (n a : ℕ) (r : Reply) (out out' : List ℕ) (used e : ℕ) → Added out used (answer c n a r) out' e → used + 1024 ≤ length out → e ≤ length out
+used-fits c n a r out out' used e add fits = let l = answer-length c n a r in omega (arith, add .end (omega (arith, l, fits)), l, fits)
+
 pub added-none : (l : List ℕ) (at : ℕ) → Added l at [] l at
 added-none l at = record { end = λ h. omega arith; text = λ h. sym (append-nil (take at l)) }
 
@@ -82,7 +86,7 @@ pub turned : (t : Talk) (chunk line m out out' memory memory' : List ℕ) (at en
     → Acts x (store s (take words memory)) r (store u (take (wordsAfter (x .call) (getD (x .args) 0 0) (r .refusal) words) memory'))
     → Added out used (answer c (x .call) (getD (x .args) 0 0) r) out' e → used + 1024 ≤ length out → d ≡ tallied c (x .call) (r .refusal)
     → w ≡ wordsAfter (x .call) (getD (x .args) 0 0) (r .refusal) words
-    → (e ≤ length out) × Scripted t (take (end + 1) chunk) (take e out') (record { begun = []; tally = d; store = store u (take w memory') })
+    → Scripted t (take (end + 1) chunk) (take e out') (record { begun = []; tally = d; store = store u (take w memory') })
 turned t chunk line m out out' memory memory' at end used e held k words w c d s u x r ee le ll g ek ex a add fits ed ew =
     let q = answer c (x .call) (getD (x .args) 0 0) r in
     let lq = answer-length c (x .call) (getD (x .args) 0 0) r in
@@ -90,8 +94,6 @@ turned t chunk line m out out' memory memory' at end used e held k words w c d s
     let l = kept (take held line ++ take (end - at) (drop at chunk)) in
     let lk : length (take held line) ≤ 4100 = omega (arith, ll, length-take held line) in
     let z = answered c (store s (take words memory)) (store u (take n memory')) l x r d (ex ∙ ap (heard (c .stage) (c .first)) ek) a ed in
-    let y = step-line chunk at end ee t (take used out) (take held line) c (store s (take words memory)) lk g le q d (store u (take n memory')) z in (
-      omega (arith, add .end (omega (arith, lq, fits)), lq, fits),
-      subst (λ o. Scripted t (take (end + 1) chunk) o (record { begun = []; tally = d; store = store u (take w memory') })) (sym (add .text (omega (arith, lq, fits))))
-          (subst (λ n. Scripted t (take (end + 1) chunk) (take used out ++ q) (record { begun = []; tally = d; store = store u (take n memory') })) (sym ew) y),
-    )
+    let y = step-line chunk at end ee t (take used out) (take held line) c (store s (take words memory)) lk g le q d (store u (take n memory')) z in
+    subst (λ o. Scripted t (take (end + 1) chunk) o (record { begun = []; tally = d; store = store u (take w memory') })) (sym (add .text (omega (arith, lq, fits))))
+    (subst (λ n. Scripted t (take (end + 1) chunk) (take used out ++ q) (record { begun = []; tally = d; store = store u (take n memory') })) (sym ew) y)

@@ -6,12 +6,11 @@ use mathlib.Core.List.{List, [], _∷_, _++_}
 use Prim.Native.Nat.{ℕ, _+_, _%_, _≤_, _<_}
 use lib.Dec.{eqb, leb}
 use lib.ListN.{length, getD, take}
-use Rattle.lists.specs.Lists.{bit, pick, joined}
+use Rattle.lists.specs.Lists.{pick, joined}
 use Rattle.model.specs.Model.{Call}
 use Rattle.state.specs.declared.Reply.{Reply}
 use Rattle.outcomes.specs.Store.{Store}
 use Rattle.outcomes.specs.Outcome.{store, blank}
-use Rattle.script.specs.declared.Line.{Line}
 use Rattle.script.specs.Script.{lastCall, summaryWord, helpWord, whyWord, noCall, heard}
 use Rattle.lines.specs.Lines.{lineOf, badOf, summaryOf}
 use Rattle.guide.specs.Guide.{help, whyOf}
@@ -21,7 +20,7 @@ use Rattle.feed.specs.declared.Tally.{Tally}
 
 -- ---- lines
 
--- the bytes that are kept of a line that has not ended: enough to see, also behind a byte order mark, that it is too long
+-- the bytes that are kept of a line that has not ended: 4,096, a byte order mark of 3 and one more, enough to see that it is too long (`heard-kept`: no line says less by it)
 abbrev pub kept : List ℕ → List ℕ
 kept l = take 4100 l
 
@@ -65,7 +64,7 @@ tallied c n f = record {
 
 -- ---- answers
 
--- what is printed for a line that says n, its first argument a: nothing for an empty line, `? K` for one that is no call, what the words that are no calls ask for, and a call's line with its place
+-- what is printed for a line that says n, its first argument a: nothing for an empty line, `? K` for a bad one, what the words that are no calls ask for, and a call's line with its place
 unfoldable pub answer : Tally → ℕ → ℕ → Reply → List ℕ
 answer c n a r =
     pick (eqb n 0) []
@@ -100,9 +99,10 @@ pub record Scripted (t : Talk) (x : List ℕ) (o : List ℕ) (u : Talk) : Type 0
 abbrev pub talkOf : Session → List ℕ → List ℕ → Talk
 talkOf s line memory = record { begun = take (s .held) line; tally = s .tally; store = store (s .state) (take (s .words) memory) }
 
--- How far a chunk was fed, with an output buffer: to its end, or until the buffer had less room than the longest answer, 1,024 bytes; and beyond nothing, where there is so much room.
+-- How far a chunk was fed, with an output buffer: to its end, or until the buffer had less than 1,024 bytes of room, in which every answer fits; and at least one byte, where there is one and so much room at first.
 pub record Fed (chunk : List ℕ) (out : List ℕ) (at used : ℕ) : Type 0 where
   pub within : at ≤ length chunk
+  pub fits : used ≤ length out
   pub stops : at < length chunk → length out < used + 1024
   pub onward : 0 < length chunk → 1024 ≤ length out → 0 < at
 
@@ -117,3 +117,7 @@ start = record {
 -- the calls of lines that follow the one by which a store was made
 unfoldable pub scripted : List (List ℕ) → List Call
 scripted ls = joined (λ l. callsOf (heard 2 false l)) ls
+
+-- the whole script x prints o: a newline comes at its end, since the last line may lack its own; where it does not, an empty line more prints nothing
+abbrev pub Prints : List ℕ → List ℕ → Type 0
+Prints x o = (u : Talk) × Scripted start (x ++ (10 ∷ [])) o u

@@ -11,7 +11,7 @@ ghost use Rattle.lists.specs.Lists.{pick};
 ghost use Rattle.lines.specs.Lines.{Added};
 ghost use Rattle.feed.specs.Scripted.{kept, more, isCalled, tallied, answer, Scripted, start, talkOf, Fed};
 
-// What a scanned line says where it is no call on a store that is made.
+// What a scanned line says: nothing, `pages`, a call up to the last one, a word that is no call, or none of these.
 const NOTHING: u32 = 0;
 
 const PAGES: u32 = 1;
@@ -32,7 +32,7 @@ const KEPT: usize = 4100;
 // Room for any answer.
 const LONGEST: usize = 1024;
 
-// What a session has counted: whether no line has ended yet, its stage (0 before `pages`, 1 where make refused the last one, 2 where a store is made), lines, accepted and refused calls, and lines that are no call.
+// What a session has counted: whether no line has ended yet, its stage (0 before `pages`, 1 where make refused the last one, 2 where a store is made), lines, accepted and refused calls, and bad lines.
 pub struct Tally {
     pub first: bool,
     pub stage: u32,
@@ -156,7 +156,7 @@ fn room(n: usize, used: usize) -> bool
     used <= n - LONGEST
 }
 
-// A session to which nothing was fed.
+// A session to which nothing was fed: make refuses a heap of one word, and leaves the state of a store that is not made.
 pub fn begin() -> Session
     ensures { λ s. ⌜ ((line memory : List ℕ) → talkOf s line memory ≡ start) ⌝ }
 {
@@ -180,7 +180,7 @@ pub fn begin() -> Session
     }
 }
 
-// Feeds a chunk to a session, and puts the answers at the start of `out`: until the chunk ends, or `out` has less room than the longest answer. `line` has what is kept of the line that has not ended, and the front of `memory` is the heap.
+// Feeds a chunk to a session, and puts the answers at the start of `out`: until the chunk ends, or `out` has less than 1,024 bytes of room, in which every answer fits. `line` has what is kept of the line that has not ended, and the front of `memory` is the heap: 4,100 bytes, and the words of 257 pages.
 pub fn feed(
     s: Session,
     memory: &mut [u32],
@@ -188,8 +188,7 @@ pub fn feed(
     chunk: &[u8],
     out: &mut [u8],
 ) -> Session
-    requires { ⌜ (length (now memory) ≡ 16448) × (length (now line) ≡ 4100) ⌝ }
-    ensures { λ r. ⌜ Scripted (talkOf s (now (line .entry)) (now (memory .entry))) (take (r .at) (now (chunk .entry))) (take (r .used) (now (out .exit))) (talkOf r (now (line .exit)) (now (memory .exit))) ⌝ }
+    ensures { λ r. ⌜ (length (now (memory .entry)) ≡ 16448 → length (now (line .entry)) ≡ 4100 → Scripted (talkOf s (now (line .entry)) (now (memory .entry))) (take (r .at) (now (chunk .entry))) (take (r .used) (now (out .exit))) (talkOf r (now (line .exit)) (now (memory .exit)))) ⌝ }
     ensures { λ r. ⌜ Fed (now (chunk .entry)) (now (out .entry)) (r .at) (r .used) ⌝ }
 {
     let mut t = s.state;
@@ -207,7 +206,8 @@ pub fn feed(
         at = end;
         if end < chunk.len() {
             at = end + 1;
-            let l = script::heard(&line[0..held], c.first, c.stage);
+            let k = actions::least(held, line.len());
+            let l = script::heard(&line[0..k], c.first, c.stage);
             let a = l.args;
             let d = actions::acted(t, memory, words, l);
             used = add_answer(out, used, c, l.call, a[0], d.reply);

@@ -25,7 +25,7 @@ column n = 32 ∷ decimal n
 unfoldable pub lineOf : ℕ → Reply → List ℕ
 lineOf p r = decimal p ++ column (r .refusal) ++ column (r .a) ++ column (r .b) ++ column (r .c) ++ column (r .d) ++ (10 ∷ [])
 
--- `? k`, for line k of a script, which is no call
+-- `? k`, for line k of a script, a bad one
 unfoldable pub badOf : ℕ → List ℕ
 badOf k = (63 ∷ 32 ∷ []) ++ decimal k ++ (10 ∷ [])
 

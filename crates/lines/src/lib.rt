@@ -1,4 +1,4 @@
-// Printed lines: for a call its place, the refusal and four values; for a line of a script that is no call a `?` and its number; for a summary a `=` and four counts.
+// Printed lines: for a call its place, the refusal and four values; for a bad line of a script a `?` and its number; for a summary a `=` and four counts.
 // They are gathered in a buffer that the caller lends, of which the first `at` bytes are used, and go out together.
 use libc::STDOUT_FILENO;
 use state::Reply;
@@ -56,7 +56,7 @@ pub fn add_line(out: &mut [u8], at: usize, place: u64, r: Reply) -> usize
     add(out, n, b"\n")
 }
 
-// Adds the line of what is no call.
+// Adds the line of a bad one.
 pub fn add_bad(out: &mut [u8], at: usize, k: u64) -> usize
     ensures { λ r. ⌜ Added (now (out .entry)) at (badOf k) (now (out .exit)) r ⌝ }
 {

@@ -85,7 +85,7 @@ calls =
 abbrev pub words : List (String × ℕ × ℕ × ℕ × String)
 words = ("summary", 0, 0, 0, "") ∷ ("help", 0, 0, 0, "") ∷ ("why", 1, 1, 0, "REFUSAL") ∷ []
 
--- all that a line can begin with; a word that is no call has a number after those of the calls
+-- calls and words together: a word that is no call has a number after those of the calls
 abbrev pub rows : List (String × ℕ × ℕ × ℕ × String)
 rows = calls ++ words
 
@@ -146,7 +146,7 @@ zeros = replicate 64 0
 unfoldable pub line : ℕ → ℕ → List ℕ → Line
 line n f vs = record { call = n; filler = f; count = length vs; args = sets zeros 0 vs }
 
--- a line that is no call
+-- a bad line
 unfoldable pub bad : Line
 bad = line noCall 0 []
 
@@ -186,9 +186,10 @@ unmarked l = pick (equal eqb (take 3 l) mark) (drop 3 l) l
 abbrev pub longestLine : ℕ
 longestLine = 4096
 
+-- a line, the mark skipped: a bad one where it is too long
 unfoldable pub fitting : ℕ → List ℕ → Line
 fitting stage l = pick (leb (length l) longestLine) (scanned stage l) bad
 
--- what a line of a script says, the first one or another: no call where it is too long
+-- what a line of a script says, the first one or another
 unfoldable pub heard : ℕ → Bool → List ℕ → Line
 heard stage first l = fitting stage (pick first (unmarked l) l)

@@ -15,7 +15,7 @@ pub struct Line {
     pub args: [u32; 64],
 }
 
-// The mark for a line that is no call: no call will have this number.
+// The mark for a bad line: no call will have this number.
 const NO_CALL: u32 = 255;
 
 // The number of the last call; the words that are no calls come after it.

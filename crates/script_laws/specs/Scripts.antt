@@ -1,17 +1,22 @@
 -- What holds of every script (feed, Scripted): where it is cut does not matter, it prints one thing, and the store that it made is what a run of its calls left.
 -- Assumes nothing.
 use mathlib.Core.Path.{_≡_}
-use mathlib.Core.Bool.{true}
+use mathlib.Core.Bool.{Bool, true, false}
 use mathlib.Core.List.{List, [], _∷_, _++_}
 use mathlib.Core.Logic.{_↔_}
-use Prim.Native.Nat.{ℕ}
-use lib.ListN.{length}
-use Rattle.model.specs.Model.{gives}
+use Prim.Native.Nat.{ℕ, _*_}
+use lib.ListN.{length, getD, drop}
+use Rattle.model.specs.Model.{Answer, refusedBy, gives}
 use Rattle.model.specs.Calls.{makes}
+use Rattle.state.specs.declared.Reply.{Reply}
 use Rattle.outcomes.specs.Store.{Store}
 use Rattle.outcomes.specs.Outcome.{MakeOutcome}
-use Rattle.outcomes.specs.Runs.{Event, calls, Run}
-use Rattle.feed.specs.Scripted.{ended, Talk, Scripted, start, scripted}
+use Rattle.outcomes.specs.Runs.{Event, calls, answers, Run}
+use Rattle.store.specs.Dispatch.{isCall}
+use Rattle.script.specs.Script.{heard}
+use Rattle.actions.specs.Acts.{printed}
+use Rattle.feed.specs.declared.Tally.{Tally}
+use Rattle.feed.specs.Scripted.{ended, tallied, answer, Talk, Scripted, start, scripted}
 
 -- Feeding x and then y is feeding x followed by y, wherever the cut.
 unfoldable pub CutAnywhere : Type 0
@@ -24,9 +29,53 @@ OneAnswer =
     (t : Talk) (x : List ℕ)
     → ((o : List ℕ) × (u : Talk) × Scripted t x o u) × ((o p : List ℕ) (u w : Talk) → Scripted t x o u → Scripted t x p w → (o ≡ p) × (u ≡ w))
 
--- Where a script has made a store, one of its lines did, by a make that was accepted, and the store is what a run of just the calls of the lines after that one left: what demands 2 and 3 say of lists of calls they say of the script.
+-- ---- runs
+
+-- the reply that a line prints, and the answers that are left after it: a call takes the next of the answers
+abbrev pub nextReply : Bool → ℕ → List Answer → Reply
+nextReply true n given = printed n (getD given 0 (refusedBy 24))
+nextReply false n given = printed 0 (refusedBy 24)
+
+abbrev pub nextAnswers : Bool → List Answer → List Answer
+nextAnswers true given = drop 1 given
+nextAnswers false given = given
+
+-- what lines print where c is counted and their calls have these answers, in order
+unfoldable pub told : Tally → List (List ℕ) → List Answer → List ℕ
+told c [] given = []
+told c (l ∷ ls) given =
+    let x = heard (c .stage) (c .first) l in
+    let r = nextReply (isCall (x .call)) (x .call) given in
+    answer c (x .call) (getD (x .args) 0 0) r ++ told (tallied c (x .call) (r .refusal)) ls (nextAnswers (isCall (x .call)) given)
+
+-- A session that has a store: state and heap move by a run of just the calls that the lines are, and the bytes printed are the lines of their answers.
+unfoldable pub MadeRuns : Type 0
+MadeRuns =
+    (t u : Talk) (x o : List ℕ) → Scripted t x o u → t .tally .stage ≡ 2 → t .tally .first ≡ false
+    → (es : List Event) × Run (t .store) es (u .store) × (calls es ≡ scripted (ended (t .begun) x)) × (o ≡ told (t .tally) (ended (t .begun) x) (answers es))
+
+-- The lines `all` have made the store T and printed o: one of them is a `pages` line, its make was accepted, and T is what a run of just the calls of the lines after it left; what these printed are the lines of their answers.
+pub record Begun (all : List (List ℕ)) (o : List ℕ) (T : Store) : Type 0 where
+  pub before : List (List ℕ)
+  pub pages : List ℕ
+  pub after : List (List ℕ)
+  pub are : all ≡ before ++ (pages ∷ after)
+  -- the stage of the `pages` line, whether it is the first line, and what is counted after it
+  pub stage : ℕ
+  pub first : Bool
+  pub tally : Tally
+  pub asks : heard stage first pages .call ≡ 1
+  pub heap : List ℕ
+  pub lent : length heap ≡ 64 * getD (heard stage first pages .args) 0 0
+  pub accepted : makes (length heap) ≡ true
+  pub made : Store
+  pub make : MakeOutcome heap (gives []) made
+  pub events : List Event
+  pub run : Run made events T
+  pub calls : calls events ≡ scripted after
+  pub early : List ℕ
+  pub prints : o ≡ early ++ told tally after (answers events)
+
+-- So it is with every script that has made a store: what demands 2 and 3 say of lists of calls they say of the script.
 unfoldable pub ScriptRuns : Type 0
-ScriptRuns =
-    (x o : List ℕ) (u : Talk) → Scripted start x o u → u .tally .stage ≡ 2
-    → (ls : List (List ℕ)) × (l : List ℕ) × (ms : List (List ℕ)) × (heap : List ℕ) × (S : Store) × (es : List Event) × (ended (start .begun) x ≡ ls ++ (l ∷ ms))
-    × (makes (length heap) ≡ true) × MakeOutcome heap (gives []) S × Run S es (u .store) × (calls es ≡ scripted ms)
+ScriptRuns = (x o : List ℕ) (u : Talk) → Scripted start x o u → u .tally .stage ≡ 2 → Begun (ended (start .begun) x) o (u .store)

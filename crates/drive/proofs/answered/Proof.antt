@@ -1,7 +1,7 @@
 use Prim.Native.Nat.{_+_, _-_, _≤_, _<_}
 use mathlib.Core.Path.{_≡_, refl, _∙_}
 use mathlib.Core.Bool.{false≢true}
-use mathlib.Core.List.{List, [], _++_}
+use mathlib.Core.List.{List, []}
 use native.Mathlib.Omega.{arith}
 use lib.ListN.{length, take, drop, length-take, length-drop}
 use Prim.Native.Nat.{ℕ}
@@ -61,12 +61,13 @@ loop-again : tie.Need-loop-again Inv-loop μ-loop
 loop-again c =
     let g = c .before in
     let f = fed g in
-    let l = f .before .before .before .before .before .before in (
+    let l = f .before .before .before .before .before .before in
+    let s = l .before .before .before .before .before in (
       g .before .before .before .before .before .before .before .memory .given ∙ l .loop .inv .0,
       g .before .before .before .before .before .line .given ∙ l .loop .inv .1,
       g .before .before .before .out .given ∙ l .loop .inv .2,
       onward f .1,
-      (_, fed-more _ _ _ _ (l .loop .from) _ _ _ (l .loop .inv .4 .1) (f .feed .ensures .0)),
+      (_, fed-more _ _ _ _ (l .loop .from) _ _ _ (l .loop .inv .4 .1) (f .feed .ensures .0 (l .loop .inv .0 ∙ asked s .0) (l .loop .inv .1 ∙ asked s .1))),
     )
 
 -- where a write failed nothing is said
@@ -88,10 +89,7 @@ answered-spec =
     (λ c. search needs)
     (λ c. search needs)
     (λ c. search needs)
-    (λ c κs.
-    let l = c .before .before .before .before .before in
-    let s = l .before .before .before .before .before in
-    (l .loop .inv .0 ∙ asked s .0, l .loop .inv .1 ∙ asked s .1))
+    (λ c κs. search needs)
     (λ c κs. search needs)
     (λ c. search needs)
     (λ c. search needs)

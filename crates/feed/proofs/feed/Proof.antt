@@ -1,4 +1,4 @@
-use Prim.Native.Nat.{_+_, _-_, _≤_, _<_}
+use Prim.Native.Nat.{_+_, _-_, _≤_}
 use mathlib.Core.Path.{_≡_, refl, sym, subst, _∙_}
 use native.Mathlib.Omega.{arith}
 use lib.ListN.{length, getD, take}
@@ -6,10 +6,10 @@ use borrow.Author.Needs.{needs}
 use borrow.Author.Tests.{leb-true, leb-false, not-true, not-false}
 use Rattle.outcomes.specs.Outcome.{store}
 use Rattle.script.specs.Laws.Lines.{few-heard}
-use Rattle.feed.specs.Scripted.{Scripted, Fed}
+use Rattle.feed.specs.Scripted.{Scripted}
 use Rattle.feed.specs.Laws.Cuts.{scripted-none}
 use Rattle.feed.specs.Laws.Steps.{piece-within}
-use Rattle.feed.proofs.Laws.{onward, begun-more, turned}
+use Rattle.feed.proofs.Laws.{onward, used-fits, begun-more, turned}
 use Rattle.feed.proofs.feed.Statement.{statement}
 use Rattle.feed.proofs.feed.Tie as tie
 
@@ -17,20 +17,13 @@ use Rattle.feed.proofs.feed.Tie as tie
 abbrev Inv-loop : tie.InvT-loop
 Inv-loop memory₀ line₀ chunk out₀ t₀ c₀ words₀ held₀ at₀ used₀ memory line out t c words held at used =
     (length memory ≡ length memory₀) × (length line ≡ length line₀) × (length out ≡ length out₀) × (at ≤ length chunk) × (used ≤ length out) × (at ≡ 0 → used ≡ 0)
-    × Scripted (record { begun = take held₀ line₀; tally = c₀; store = store t₀ (take words₀ memory₀) }) (take at chunk) (take used out) (record { begun = take held line; tally = c; store = store t (take words memory) })
+    × (length memory₀ ≡ 16448 → length line₀ ≡ 4100 → Scripted (record { begun = take held₀ line₀; tally = c₀; store = store t₀ (take words₀ memory₀) }) (take at chunk) (take used out) (record { begun = take held line; tally = c; store = store t (take words memory) }))
 
 abbrev μ-loop : tie.MeasureT-loop
 μ-loop memory₀ line₀ chunk out₀ t₀ c₀ words₀ held₀ at₀ used₀ memory line out t c words held at used = length chunk - at
 
--- what is asked of the caller
-memory-asked : (c : tie.Start Inv-loop μ-loop) → length (c .args .memory .now) ≡ 16448
-memory-asked c = search needs
-
-line-asked : (c : tie.Start Inv-loop μ-loop) → length (c .args .line .now) ≡ 4100
-line-asked c = search needs
-
 loop-holds : tie.Need-loop-holds Inv-loop μ-loop
-loop-holds c = (refl, refl, refl, omega arith, omega arith, (λ _. refl), scripted-none _)
+loop-holds c = (refl, refl, refl, omega arith, omega arith, (λ _. refl), (λ _ _. scripted-none _))
 
 -- the line ends within the chunk
 end-within : (c : tie.After-line-end Inv-loop μ-loop) → (c .before .before .before .before .loop .at ≤ c .line-end .result) × (c .line-end .result ≤ length (c .before .before .before .before .before .before .before .before .before .before .before .args .chunk .now))
@@ -38,11 +31,9 @@ end-within c =
     let l = c .before .before .before .before in
     (omega (arith, c .line-end .ensures), piece-within _ (l .loop .at) _ (c .line-end .ensures) (l .loop .inv .3))
 
--- the buffer for a line has room for all that is kept
-line-room : (c : tie.After-keep Inv-loop μ-loop) → length (c .before .before .before .before .before .before .before .loop .line) ≡ 4100
-line-room c =
-    let l = c .before .before .before .before .before .before .before in
-    l .loop .inv .1 ∙ line-asked (l .before .before .before .before .before .before .before)
+-- the buffer for a line has room for all that is kept, where it had at first
+line-room : (c : tie.After-keep Inv-loop μ-loop) → let l = c .before .before .before .before .before .before .before in length (l .before .before .before .before .before .before .before .args .line .now) ≡ 4100 → length (l .loop .line) ≡ 4100
+line-room c e = c .before .before .before .before .before .before .before .loop .inv .1 ∙ e
 
 -- there is room for any answer
 answer-room : (c : tie.Else1 Inv-loop μ-loop) → c .before .before .before .loop .used + 1024 ≤ length (c .before .before .before .loop .out)
@@ -63,7 +54,7 @@ abbrev heard : tie.After-acted Inv-loop μ-loop → tie.After-heard Inv-loop μ-
 heard c = c .before .before .before
 
 abbrev keeping : tie.After-heard Inv-loop μ-loop → tie.After-keep Inv-loop μ-loop
-keeping c = c .before .before .before .before .before .before
+keeping c = c .before .before .before .before .before .before .before
 
 abbrev ending : tie.After-keep Inv-loop μ-loop → tie.After-line-end Inv-loop μ-loop
 ending c = c .before .before .before
@@ -77,27 +68,30 @@ loop-again c =
     let ke = keeping he in
     let en = ending ke in
     let l = en .before .before .before .before in
-    let k : ke .keep .result - 0 ≡ ke .keep .result = omega arith in
-    let z =
-    turned _ _ (l .loop .line) _ (l .loop .out) _ (l .loop .memory) _ (l .loop .at) _ (l .loop .used) _ (l .loop .held) (ke .keep .result) (l .loop .words) _ (l .loop .c) _ (l .loop .t) _ (he .heard .result) _
-    (en .line-end .ensures)
-    (he .before .before .before .if2 .taken)
-    (line-room ke)
-    (l .loop .inv .6)
-    (ke .keep .ensures (line-room ke) .1)
-    (rw k at (he .heard .ensures))
-    (ac .acted .ensures (l .loop .inv .0 ∙ memory-asked (l .before .before .before .before .before .before .before)) (few he))
-    (ad .add-answer .ensures)
-    (answer-room (en .before))
-    (w .before .tallied .ensures)
-    (w .words-after .ensures) in (
+    let used = used-fits _ _ _ _ _ _ _ _ (ad .add-answer .ensures) (answer-room (en .before)) in (
       ad .before .before .before .memory .given ∙ l .loop .inv .0,
-      he .before .before .before .before .before .line .given ∙ l .loop .inv .1,
+      he .before .before .before .before .before .before .line .given ∙ l .loop .inv .1,
       w .before .before .before .out .given ∙ l .loop .inv .2,
-      omega (arith, he .before .before .before .if2 .taken),
-      omega (arith, z .0, w .before .before .before .out .given),
+      omega (arith, he .before .before .before .before .if2 .taken),
+      omega (arith, used, w .before .before .before .out .given),
       (λ e. absurd (omega (arith, e))),
-      z .1,
+      (λ m n.
+          let r = line-room ke n in
+          let kept = ke .keep .ensures r in
+          let k : he .before .before .before .least .result - 0 ≡ ke .keep .result =
+          omega (arith, he .before .before .before .least .ensures, kept .0, r, he .before .before .before .before .before .before .line .given) in
+          turned _ _ (l .loop .line) _ (l .loop .out) _ (l .loop .memory) _ (l .loop .at) _ (l .loop .used) _ (l .loop .held) (ke .keep .result) (l .loop .words) _ (l .loop .c) _ (l .loop .t) _ (he .heard .result) _
+          (en .line-end .ensures)
+          (he .before .before .before .before .if2 .taken)
+          r
+          (l .loop .inv .6 m n)
+          (kept .1)
+          (rw k at (he .heard .ensures))
+          (ac .acted .ensures (l .loop .inv .0 ∙ m) (few he))
+          (ad .add-answer .ensures)
+          (answer-room (en .before))
+          (w .before .tallied .ensures)
+          (w .words-after .ensures)),
     )
 
 loop-again-2 : tie.Need-loop-again-2 Inv-loop μ-loop
@@ -113,19 +107,19 @@ loop-again-2 c =
       end-within en .1,
       l .loop .inv .4,
       (λ e. absurd (omega (arith, e, c .if2 .left, t .loop-test .taken))),
-      begun-more _ _ (l .loop .line) (ke .keep .last .0) _ (l .loop .at) _ (l .loop .held) (ke .keep .result) (l .loop .c) _ (en .line-end .ensures) k (l .loop .inv .6) (ke .keep .ensures k .1),
+      (λ m n. begun-more _ _ (l .loop .line) (ke .keep .last .0) _ (l .loop .at) _ (l .loop .held) (ke .keep .result) (l .loop .c) _ (en .line-end .ensures) (k n) (l .loop .inv .6 m n) (ke .keep .ensures (k n) .1)),
     )
 
 returns : tie.Need-returns Inv-loop μ-loop
 returns c =
     let l = c .before in
-    (l .loop .inv .6, record { within = l .loop .inv .3; stops = λ h. absurd (omega (arith, h, c .loop-test .left)); onward = λ h k. omega (arith, h, c .loop-test .left) })
+    (l .loop .inv .6, record { within = l .loop .inv .3; fits = omega (arith, l .loop .inv .4, l .loop .inv .2); stops = λ h. absurd (omega (arith, h, c .loop-test .left)); onward = λ h k. omega (arith, h, c .loop-test .left) })
 
 returns-2 : tie.Need-returns-2 Inv-loop μ-loop
 returns-2 c =
     let l = c .before .before .before in
     let full = leb-false (l .loop .used + 1024) (length (l .loop .out)) (sym (c .before .room .ensures) ∙ not-true _ (c .if1 .taken)) in
-    (l .loop .inv .6, record { within = l .loop .inv .3; stops = λ h. omega (arith, full, l .loop .inv .2); onward = λ h k. onward (l .loop .at) (l .loop .used) _ (l .loop .inv .5) full (omega (arith, k, l .loop .inv .2)) })
+    (l .loop .inv .6, record { within = l .loop .inv .3; fits = omega (arith, l .loop .inv .4, l .loop .inv .2); stops = λ h. omega (arith, full, l .loop .inv .2); onward = λ h k. onward (l .loop .at) (l .loop .used) _ (l .loop .inv .5) full (omega (arith, k, l .loop .inv .2)) })
 
 pub feed-spec : {M : Type 1} → statement M
 feed-spec =
@@ -141,17 +135,18 @@ feed-spec =
     (λ c. omega (arith, end-within (c .before) .1))
     (λ c κs. search needs)
     (λ c. search needs)
-    (λ c. search needs)
-    (λ c. search needs)
-    (λ c. omega (arith, c .before .before .before .before .keep .ensures (line-room (c .before .before .before .before)) .0, line-room (c .before .before .before .before), c .before .before .before .line .given))
-    (λ c κs. search needs)
     (λ c κs. search needs)
     (λ c. search needs)
+    (λ c. search needs)
+    (λ c. omega (arith, c .before .least .ensures))
     (λ c κs. search needs)
     (λ c κs. search needs)
     (λ c. search needs)
     (λ c κs. search needs)
-    (λ c. omega (arith, end-within (ending (keeping (heard (acted (answered (c .before)))))), (heard (acted (answered (c .before)))) .before .before .before .if2 .taken))
+    (λ c κs. search needs)
+    (λ c. search needs)
+    (λ c κs. search needs)
+    (λ c. omega (arith, end-within (ending (keeping (heard (acted (answered (c .before)))))), (heard (acted (answered (c .before)))) .before .before .before .before .if2 .taken))
     loop-again
     (λ c. omega (arith, c .if2 .left, c .before .before .before .before .before .before .before .before .before .loop-test .taken))
     loop-again-2

@@ -1,24 +1,25 @@
 -- The lines, the calls and the answers of small scripts, computed.
 -- Assumes nothing.
 use mathlib.Core.Path.{_≡_, refl}
-use mathlib.Core.Bool.{false}
+use mathlib.Core.Bool.{true, false}
 use mathlib.Core.List.{List, [], _∷_, _++_}
 use Prim.Native.Nat.{ℕ}
 use Prim.Native.String.{String}
 use lib.ListN.{replicate}
 use Rattle.lists.specs.Lists.{joined}
-use Rattle.model.specs.Model.{declare, push, dropFrame, handBack, setPointer, delete, deleteAll, refusedBy}
-use Rattle.pages.specs.Pages.{wrongLength, wrongLengthIn}
+use Rattle.model.specs.Model.{declare, push, dropFrame, handBack, setPointer, delete, deleteAll, totals, gives, refusedBy}
+use Rattle.pages.specs.Pages.{wrongLength, wrongLengthIn, pagesOf, pagesIn}
+use Rattle.regions.specs.Regions.{liveCount, liveIn}
 use Rattle.state.specs.declared.Reply.{Reply}
-use Rattle.outcomes.specs.Store.{Store}
-use Rattle.outcomes.specs.Outcome.{Outcome, MakeOutcome, badLength, checks, refusal, store, blank}
+use Rattle.frames.specs.Frames.{pushed}
+use Rattle.outcomes.specs.Store.{Store, frames}
+use Rattle.outcomes.specs.Outcome.{withFrames, Outcome, Accepted, MakeOutcome, badLength, checks, refusal, store, blank}
 use Rattle.store.specs.Dispatch.{lastCall as lastNumber, decoded}
-use Rattle.script.specs.Script.{bytes, blank as isBlank, inWord, tokens, value, lastCall, names, least, most, fillers, placed, callOf, takes, allowed, zeros, line, bad, given, called, acting, said, scanned, unmarked, fitting, heard}
+use Rattle.script.specs.Script.{bytes, blank as isBlank, inWord, tokens, value, lastCall, names, least, most, fillers, placed, callOf, takes, allowed, zeros, line, bad, given, called, acting, said, scanned, mark, unmarked, fitting, heard}
 use Rattle.lines.specs.Lines.{numeral, decimal, column, lineOf, badOf, summaryOf}
 use Rattle.guide.specs.Guide.{help, whyOf}
 use Rattle.actions.specs.Acts.{fillerPlace, callsOf, printed, Replied, Called, Makes, Acts}
-use Rattle.feed.specs.declared.Tally.{Tally}
-use Rattle.feed.specs.Scripted.{ended, left, isCalled, tallied, answer, Talk, Scripted, start, scripted}
+use Rattle.feed.specs.Scripted.{ended, left, more, isCalled, tallied, answer, Scripted, start, scripted, Prints}
 
 -- ---- lines
 
@@ -70,19 +71,41 @@ text ts = joined (λ t. bytes t ++ (10 ∷ [])) ts
 unmade : Store
 unmade = store (blank 0 0) []
 
-reply : ℕ → Reply
-reply n = record { refusal = n; a = 0; b = 0; c = 0; d = 0 }
+-- a store of one page, and with a frame of one slot
+made : Store
+made = store (blank 1 1) (replicate 64 0)
 
--- a call before `pages`, a `pages` that make refuses, a call after it, a word, an empty line, `pages` again, a summary, and a line that has not ended
-session : Scripted start (text ("push 1" ∷ "pages 0" ∷ "push 1" ∷ "why 0" ∷ "" ∷ "pages 0" ∷ "summary" ∷ []) ++ bytes "dr")
-    (text ("? 1" ∷ "1 1 0 0 0 0" ∷ "2 21 0 0 0 0" ∷ "# 0 accepted" ∷ "3 1 0 0 0 0" ∷ "= 3 0 3 1" ∷ []))
-    (record { begun = bytes "dr"; tally = record { first = false; stage = 1; lines = 7; accepted = 0; refused = 3; bad = 1 }; store = unmade })
-unfolding text unmade reply start ended left Acts Called isCalled tallied answer bytes isBlank inWord tokens value names least most fillers placed callOf takes allowed zeros line bad given called acting said scanned unmarked fitting heard fillerPlace numeral decimal column lineOf badOf summaryOf whyOf decoded Outcome MakeOutcome checks refusal badLength wrongLength wrongLengthIn blank
+framed : Store
+framed = withFrames made (pushed (frames made) 1)
+
+reply : ℕ → ℕ → ℕ → Reply
+reply n a b = record { refusal = n; a = a; b = b; c = 0; d = 0 }
+
+-- A byte order mark, a call before `pages`, a `pages` that make refuses, a call after it, a word, an empty line, `pages` again, a frame, what is free, `pages` once more, a summary, and a line that has not ended.
+session : Scripted start (mark ++ text ("push 1" ∷ "pages 0" ∷ "push 1" ∷ "why 0" ∷ "" ∷ "pages 1" ∷ "push 1" ∷ "totals" ∷ "pages 1" ∷ "summary" ∷ []) ++ bytes "dr")
+    (text ("? 1" ∷ "1 1 0 0 0 0" ∷ "2 21 0 0 0 0" ∷ "# 0 accepted" ∷ "3 0 0 0 0 0" ∷ "4 0 1 0 0 0" ∷ "5 0 1 1 1 0" ∷ "? 9" ∷ "= 5 3 2 2" ∷ []))
+    (record { begun = bytes "dr"; tally = record { first = false; stage = 2; lines = 10; accepted = 3; refused = 2; bad = 2 }; store = framed })
+unfolding text unmade made framed reply start ended left Acts Called isCalled tallied answer bytes isBlank inWord tokens value names least most fillers placed callOf takes allowed zeros line bad given called acting said scanned unmarked fitting heard fillerPlace numeral decimal column lineOf badOf summaryOf whyOf decoded Outcome Accepted MakeOutcome checks refusal badLength wrongLength wrongLengthIn blank pushed pagesOf pagesIn liveCount liveIn
 session =
-    let none : (reply 24 ≡ printed 0 (refusedBy 24)) × (unmade ≡ unmade) = (refl, refl) in
-    let make : Makes 0 (reply 1) unmade = ([], refusedBy 1, unmade, refl, (refl, refl), refl, refl) in
-    let call : Replied 5 (push 1) unmade (reply 21) unmade = (refusedBy 21, (refl, refl), refl) in
+    let none : (S : Store) → (reply 24 0 0 ≡ printed 0 (refusedBy 24)) × (S ≡ S) = λ S. (refl, refl) in
+    let refuses : Makes 0 (reply 1 0 0) unmade = ([], refusedBy 1, unmade, refl, (refl, refl), refl, refl) in
+    let makes : Makes 1 (reply 0 0 0) made = (replicate 64 0, gives [], made, refl, (refl, refl), refl, refl) in
+    let early : Replied 5 (push 1) unmade (reply 21 0 0) unmade = (refusedBy 21, (refl, refl), refl) in
+    let pushes : Replied 5 (push 1) made (reply 0 1 0) framed = (gives (1 ∷ []), (refl, refl), refl) in
+    let sums : Replied 21 totals framed (record { refusal = 0; a = 1; b = 1; c = 1; d = 0 }) framed = (gives (1 ∷ 1 ∷ 1 ∷ 0 ∷ []), (refl, refl), refl) in
     record {
-      turns = (_, _, _, _, (reply 24, none, refl, refl), (_, _, _, _, (reply 1, make, refl, refl), (_, _, _, _, (reply 21, call, refl, refl), (_, _, _, _, (reply 24, none, refl, refl), (_, _, _, _, (reply 24, none, refl, refl), (_, _, _, _, (reply 1, make, refl, refl), (_, _, _, _, (reply 24, none, refl, refl), (refl, refl, refl), refl), refl), refl), refl), refl), refl), refl);
+      turns = (_, _, _, _, (reply 24 0 0, none unmade, refl, refl), (_, _, _, _, (reply 1 0 0, refuses, refl, refl), (_, _, _, _, (reply 21 0 0, early, refl, refl), (_, _, _, _, (reply 24 0 0, none unmade, refl, refl), (_, _, _, _, (reply 24 0 0, none unmade, refl, refl), (_, _, _, _, (reply 0 0 0, makes, refl, refl), (_, _, _, _, (reply 0 1 0, pushes, refl, refl), (_, _, _, _, (_, sums, refl, refl), (_, _, _, _, (reply 24 0 0, none framed, refl, refl), (_, _, _, _, (reply 24 0 0, none framed, refl, refl), (refl, refl, refl), refl), refl), refl), refl), refl), refl), refl), refl), refl), refl);
       begun = refl;
     }
+
+-- a whole script whose last line lacks its newline: after a mark, help, for which no call is counted
+asks : Prints (mark ++ text ("help" ∷ []) ++ bytes "summary") (help ++ text ("= 0 0 0 0" ∷ []))
+unfolding text unmade reply start ended left Acts Called isCalled tallied answer bytes isBlank inWord tokens value names least most fillers placed callOf takes allowed zeros line bad given called acting said scanned unmarked fitting heard fillerPlace numeral decimal column summaryOf decoded blank
+asks =
+    let none : (reply 24 0 0 ≡ printed 0 (refusedBy 24)) × (unmade ≡ unmade) = (refl, refl) in
+    (_, record { turns = (_, _, _, _, (reply 24 0 0, none, refl, refl), (_, _, _, _, (reply 24 0 0, none, refl, refl), (refl, refl, refl), refl), refl); begun = refl })
+
+-- view's first value is the length of its part, another call's is its own; and counting goes on from 0 after 2^64 - 1
+views : (printed 17 (record { refusal = 0; values = 0 ∷ 0 ∷ 0 ∷ 0 ∷ []; part = 7 ∷ 8 ∷ [] }) ≡ reply 0 2 0) × (printed 16 (gives (7 ∷ [])) ≡ reply 0 7 0) × (more 18446744073709551615 true ≡ 0)
+unfolding reply
+views = (refl, refl, refl)

@@ -1,4 +1,5 @@
 use Prim.Native.Nat.{_≤_, _<_}
+use native.Mathlib.Omega.{arith}
 use borrow.Author.Needs.{needs}
 use borrow.Author.Tests.{eq-eqb, ne-eqb, lt-ltb, le-ltb, not-true, not-false}
 use Rattle.script.specs.Script.{allowed}
@@ -15,7 +16,7 @@ returns-2 c = rw (← c .before .takes .ensures) (simp (ne-eqb _ _ (c .before .b
 
 -- `pages` is taken just where no store is made
 made : (c : tie.Then4) → 2 ≤ c .before .before .before .before .before .args .stage
-made c = c .if4 .taken
+made c = omega (arith, c .if4 .taken)
 
 unmade : (c : tie.Else4) → c .before .before .before .before .before .args .stage < 2
 unmade c = c .if4 .left

@@ -1,4 +1,5 @@
 use Prim.Native.Nat.{_≤_, _<_}
+use native.Mathlib.Omega.{arith}
 use borrow.Author.Needs.{needs}
 use borrow.Author.Tests.{le-leb, lt-leb}
 use lib.ListN.{length}
@@ -8,7 +9,7 @@ use Rattle.script.proofs.fitting.Tie as tie
 
 -- what is not scanned is too long, and what is scanned is not
 too-long : (c : tie.Then1) → longestLine < length (c .before .before .args .s .now)
-too-long c = c .if1 .taken
+too-long c = omega (arith, c .if1 .taken)
 
 fits : (c : tie.Else1) → length (c .before .before .args .s .now) ≤ longestLine
 fits c = c .if1 .left

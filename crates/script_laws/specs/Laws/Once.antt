@@ -17,7 +17,7 @@ use Rattle.script.specs.declared.Line.{Line}
 use Rattle.script.specs.Script.{heard}
 use Rattle.actions.specs.Acts.{lineCall, printed, CalledBy, Called, Makes, ActsBy, Acts}
 use Rattle.feed.specs.declared.Tally.{Tally}
-use Rattle.feed.specs.Scripted.{ended, left, tallied, answer, Turn, Turns, Talk, Scripted}
+use Rattle.feed.specs.Scripted.{ended, left, tallied, answer, Turn, Turns, Talk}
 use Rattle.promises.specs.Promises.{Total}
 use Rattle.promises.specs.Laws.Refused.{total, one-outcome}
 use Rattle.script_laws.specs.Scripts.{OneAnswer}

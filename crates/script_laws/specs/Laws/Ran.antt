@@ -1,112 +1,179 @@
--- The store that a script has made is what a run of its calls left.
+-- The store that a script has made is what a run of its calls left, and what is printed are the lines of their answers.
 -- Assumes nothing.
 use mathlib.Core.Path.{_≡_, refl, sym, ap, subst, _∙_}
-use mathlib.Core.Bool.{Bool, true, false, false≢true}
-use mathlib.Core.List.{List, [], _∷_, _++_, append-nil, append-assoc}
-use Prim.Native.Nat.{ℕ}
+use mathlib.Core.Bool.{Bool, true, false}
+use mathlib.Core.List.{List, [], _∷_, _++_, append-assoc}
+use Prim.Native.Nat.{ℕ, _*_, _<_}
 use native.Mathlib.Omega.{arith}
 use lib.Dec.{eqb}
 use lib.ListN.{length, getD}
-use Rattle.lists.specs.Lists.{pick, joined}
-use Rattle.lists.specs.Laws.Finds.{map-append, joined-append}
-use Rattle.model.specs.Model.{Answer, Call, gives, refusedBy}
+use borrow.Author.Tests.{ne-eqb, eqb-true, eqb-false}
+use Rattle.lists.specs.Lists.{pick}
+use Rattle.lists.specs.Laws.Tests.{by-test}
+use Rattle.model.specs.Model.{gives}
 use Rattle.model.specs.Calls.{makes}
 use Rattle.state.specs.declared.Reply.{Reply}
 use Rattle.outcomes.specs.Store.{Store}
-use Rattle.outcomes.specs.Outcome.{Outcome, MakeBy, MakeOutcome, store}
-use Rattle.outcomes.specs.Runs.{Event, calls, Run, done, step}
+use Rattle.outcomes.specs.Outcome.{MakeBy, MakeOutcome, store}
+use Rattle.outcomes.specs.Runs.{Event, calls, answers, Run, done, step}
 use Rattle.store.specs.Dispatch.{isCall}
 use Rattle.script.specs.declared.Line.{Line}
 use Rattle.script.specs.Script.{heard}
+use Rattle.script.specs.Laws.Lines.{few-heard}
 use Rattle.actions.specs.Acts.{lineCall, callsOf, CalledBy, Called, Makes, ActsBy, Acts}
 use Rattle.feed.specs.declared.Tally.{Tally}
-use Rattle.feed.specs.Scripted.{ended, tallied, Turn, Turns, Talk, Scripted, start, scripted}
-use Rattle.script_laws.specs.Scripts.{ScriptRuns}
+use Rattle.feed.specs.Scripted.{ended, tallied, answer, Turns, start, scripted}
+use Rattle.script_laws.specs.Scripts.{nextReply, nextAnswers, told, MadeRuns, Begun, ScriptRuns}
 
-snoc : {S T : Store} {es : List Event} (e : Event) → Run S es T → Outcome (e .call) T (e .answer) (e .left) → Run S (es ++ (e ∷ [])) (e .left)
-snoc e done o = step o done
-snoc e (step p r) o = step p (snoc e r o)
+-- ---- after the store is made
 
--- what a line does to a store that a run has reached: one call more, or none
-called-next : {S T U : Store} {es : List Event} (l : Line) (r : Reply) → Called l T r U → Run S es T → (fs : List Event) × Run S fs U × (calls fs ≡ calls es ++ callsOf l)
-unfolding Called callsOf
-called-next {S} {T} {U} {es} l r k g = go (isCall (l .call)) k
+abbrev Runs : Tally → Store → List (List ℕ) → List ℕ → Store → Type 0
+Runs c S ls o T = (es : List Event) × Run S es T × (calls es ≡ scripted ls) × (o ≡ told c ls (answers es))
+
+-- no line asks for pages
+no-pages : (c : Tally) (l : List ℕ) → c .stage ≡ 2 → heard (c .stage) (c .first) l .call ≡ 1 → ⊥
+no-pages c l two h = absurd (omega (arith, two, few-heard (c .stage) (c .first) l h .0))
+
+-- the stage after a line that asks for none
+stage-stays : (c : Tally) (n f : ℕ) → (n ≡ 1 → ⊥) → tallied c n f .stage ≡ c .stage
+unfolding tallied
+stage-stays c n f h = rw (ne-eqb n 1 h)
+
+acts-call : (l : Line) (S : Store) (r : Reply) (T : Store) → (l .call ≡ 1 → ⊥) → Acts l S r T → Called l S r T
+unfolding Acts
+acts-call l S r T h a = rw (ne-eqb (l .call) 1 h) at a
+
+first-after : (c : Tally) (n f : ℕ) → tallied c n f .first ≡ false
+unfolding tallied
+first-after c n f = refl
+
+-- one line more in front: one call more, or none
+one-more : (c e : Tally) (S U T : Store) (l : List ℕ) (ls : List (List ℕ)) (p q o : List ℕ) (r : Reply) → let x = heard (c .stage) (c .first) l in
+    x ≡ heard 2 false l → Called x S r U → p ≡ answer c (x .call) (getD (x .args) 0 0) r → e ≡ tallied c (x .call) (r .refusal) → o ≡ p ++ q → Runs e U ls q T → Runs c S (l ∷ ls) o T
+unfolding Called callsOf scripted told
+one-more c e S U T l ls p q o r same k ep ee eo (es, run, ec, eq) = let (fs, runs, fc, fq) = go (isCall n) k in (fs, runs, fc ∙ ap (λ y. callsOf y ++ scripted ls) same, fq)
   where
-    c : Call
-    c = lineCall l
+    x : Line
+    x = heard (c .stage) (c .first) l
 
-    go : (x : Bool) → CalledBy x l T r U → (fs : List Event) × Run S fs U × (calls fs ≡ calls es ++ pick x (c ∷ []) [])
-    go true (a, o, _) =
-        let e : Event = record { call = c; answer = a; left = U } in
-        (es ++ (e ∷ []), snoc e g o, map-append (λ e. e .call) es (e ∷ []))
-    go false q = (es, subst (Run S es) (sym (q .1)) g, sym (append-nil (calls es)))
+    n : ℕ
+    n = x .call
 
--- one line more among the lines after the one by which a store was made
-scripted-snoc : (ms : List (List ℕ)) (l : List ℕ) → scripted (ms ++ (l ∷ [])) ≡ scripted ms ++ callsOf (heard 2 false l)
-unfolding scripted
-scripted-snoc ms l =
-    let f : List ℕ → List Call = λ l. callsOf (heard 2 false l) in
-    joined-append f ms (l ∷ []) ∙ ap (λ k. joined f ms ++ k) (append-nil (f l))
+    -- what is printed, with the reply r
+    with : Reply → List ℕ
+    with r = answer c n (getD (x .args) 0 0) r ++ told (tallied c n (r .refusal)) ls (answers es)
 
--- the lines so far have made T
-abbrev Ran : List (List ℕ) → Store → Type 0
-Ran all T =
-    (ls : List (List ℕ)) × (l : List ℕ) × (ms : List (List ℕ)) × (heap : List ℕ) × (S : Store) × (es : List Event) × (all ≡ ls ++ (l ∷ ms))
-    × (makes (length heap) ≡ true) × MakeOutcome heap (gives []) S × Run S es T × (calls es ≡ scripted ms)
+    prints : o ≡ with r
+    prints = eo ∙ ap (λ k. k ++ q) ep ∙ ap (λ k. answer c n (getD (x .args) 0 0) r ++ k) (eq ∙ ap (λ t. told t ls (answers es)) ee)
 
-abbrev So : Tally → Store → List (List ℕ) → Type 0
-So c S all = c .stage ≡ 2 → (c .first ≡ false) × Ran all S
+    go : (b : Bool) → CalledBy b x S r U
+        → (es : List Event) × Run S es T × (calls es ≡ pick b (lineCall x ∷ []) [] ++ scripted ls) × (o ≡ answer c n (getD (x .args) 0 0) (nextReply b n (answers es)) ++ told (tallied c n (nextReply b n (answers es) .refusal)) ls (nextAnswers b (answers es)))
+    go true (a, out, er) = ((record { call = lineCall x; answer = a; left = U }) ∷ es, step out run, ap (λ k. lineCall x ∷ k) ec, prints ∙ ap with er)
+    go false (er, eU) = (es, subst (λ W. Run W es T) eU run, ec, prints ∙ ap with er)
 
--- ---- one line more
+turns-run : (c d : Tally) (S T : Store) (ls : List (List ℕ)) (o : List ℕ) → c .stage ≡ 2 → c .first ≡ false → Turns c S ls o d T → Runs c S ls o T
+unfolding scripted told
+turns-run c d S T [] o two off (eo, _, eT) = ([], subst (Run S []) (sym eT) done, refl, eo)
+turns-run c d S T (l ∷ ls) o two off (p, q, e, U, (r, a, ep, ee), rest, eo) =
+    let x = heard (c .stage) (c .first) l in
+    one-more c e S U T l ls p q o r (ap (λ n. heard n (c .first) l) two ∙ ap (λ b. heard 2 b l) off) (acts-call x S r U (no-pages c l two) a) ep ee eo
+    (turns-run e d U T ls q
+    (ap (λ t. t .stage) ee ∙ stage-stays c (x .call) (r .refusal) (no-pages c l two) ∙ two)
+    (ap (λ t. t .first) ee ∙ first-after c (x .call) (r .refusal))
+    rest)
+
+pub made-runs : MadeRuns
+unfolding MadeRuns
+made-runs t u x o s two off = turns-run (t .tally) (u .tally) (t .store) (u .store) (ended (t .begun) x) o two off (s .turns)
+
+-- ---- the line by which it is made
 
 -- the stage after a `pages` that is answered by the refusal f
 abbrev stageBy : ℕ → ℕ
 stageBy f = pick (eqb f 0) 2 1
 
--- `pages`
-after-make : (all : List (List ℕ)) (l : List ℕ) (n : ℕ) (r : Reply) (T : Store) → Makes n r T → stageBy (r .refusal) ≡ 2 → Ran (all ++ (l ∷ [])) T
-unfolding MakeOutcome scripted
-after-make all l n r T (heap, a, U, e, o, f, g) h = go (makes (length heap)) refl o
+-- an accepted make: its answer, and the store, of which the heap is kept
+made-by : (n : ℕ) (r : Reply) (T : Store) → Makes n r T → stageBy (r .refusal) ≡ 2 → (heap : List ℕ) × (length heap ≡ 64 * n) × (makes (length heap) ≡ true) × MakeOutcome heap (gives []) T
+unfolding MakeOutcome
+made-by n r T (heap, a, U, e, o, f, g) h = go (makes (length heap)) refl o
   where
-    go : (b : Bool) → makes (length heap) ≡ b → MakeBy b heap a U → Ran (all ++ (l ∷ [])) T
+    go : (b : Bool) → makes (length heap) ≡ b → MakeBy b heap a U → (heap : List ℕ) × (length heap ≡ 64 * n) × (makes (length heap) ≡ true) × MakeBy (makes (length heap)) heap (gives []) T
     go true m (ea, eU) =
         let same : T ≡ U = g ∙ ap (λ z. store (U .state) (pick (eqb (z .refusal) 0) (U .heap) [])) ea in
-        (all, l, [], heap, U, [], refl, m, subst (λ b. MakeBy b heap (gives []) U) (sym m) (refl, eU), subst (Run U []) (sym same) done, refl)
+        (heap, e, m, subst (λ b. MakeBy b heap (gives []) T) (sym m) (refl, same ∙ eU))
     go false m (ea, eU) = absurd (omega (arith, sym h ∙ ap (λ z. stageBy (z .refusal)) f ∙ ap (λ z. stageBy (z .refusal)) ea))
 
--- any other line
-after-call : (all : List (List ℕ)) (l : List ℕ) (x : Line) (S : Store) (r : Reply) (T : Store) → x ≡ heard 2 false l → Called x S r T → Ran all S → Ran (all ++ (l ∷ [])) T
-after-call all l x S r T e k (ls, p, ms, heap, P, es, f, m, o, run, g) =
-    let (fs, q, z) = called-next x r k run in (
-      ls,
-      p,
-      ms ++ (l ∷ []),
-      heap,
-      P,
-      fs,
-      ap (λ k. k ++ (l ∷ [])) f ∙ append-assoc ls (p ∷ ms) (l ∷ []),
-      m,
-      o,
-      q,
-      z ∙ ap (λ k. k ++ callsOf x) g ∙ ap (λ y. scripted ms ++ callsOf y) e ∙ sym (scripted-snoc ms l),
-    )
+stage-by : (c : Tally) (n f : ℕ) → n ≡ 1 → tallied c n f .stage ≡ stageBy f
+unfolding tallied
+stage-by c n f h = rw h
 
-turn-so : (c d : Tally) (S T : Store) (l o : List ℕ) (all : List (List ℕ)) → So c S all → Turn c S l o d T → So d T (all ++ (l ∷ []))
-unfolding Acts tallied
-turn-so c d S T l o all so (r, a, _, ed) two = (ap (λ t. t .first) ed, go (eqb (x .call) 1) a (ap (λ t. t .stage) (sym ed) ∙ two))
+acts-make : (l : Line) (S : Store) (r : Reply) (T : Store) → l .call ≡ 1 → Acts l S r T → Makes (getD (l .args) 0 0) r T
+unfolding Acts
+acts-make l S r T h a = rw h at a
+
+turns-begin : (c d : Tally) (S T : Store) (ls : List (List ℕ)) (o : List ℕ) → (c .stage ≡ 2 → ⊥) → d .stage ≡ 2 → Turns c S ls o d T → Begun ls o T
+turns-begin c d S T [] o un two (_, ed, _) = absurd (un (ap (λ t. t .stage) (sym ed) ∙ two))
+turns-begin c d S T (l ∷ ls) o un two (p, q, e, U, (r, a, ep, ee), rest, eo) =
+    by-test (eqb (e .stage) 2)
+    (λ t. here (eqb-true (e .stage) 2 t))
+    (λ t. later (turns-begin e d U T ls q (eqb-false (e .stage) 2 t) two rest))
   where
     x : Line
     x = heard (c .stage) (c .first) l
 
-    go : (b : Bool) → ActsBy b x S r T → pick b (stageBy (r .refusal)) (c .stage) ≡ 2 → Ran (all ++ (l ∷ [])) T
-    go true k h = after-make all l (getD (x .args) 0 0) r T k h
-    go false k h = let (f, ran) = so h in after-call all l x S r T (ap (λ n. heard n (c .first) l) h ∙ ap (λ b. heard 2 b l) f) k ran
+    later : Begun ls q T → Begun (l ∷ ls) o T
+    later b = record {
+      before = l ∷ b .before;
+      pages = b .pages;
+      after = b .after;
+      are = ap (λ k. l ∷ k) (b .are);
+      stage = b .stage;
+      first = b .first;
+      tally = b .tally;
+      asks = b .asks;
+      heap = b .heap;
+      lent = b .lent;
+      accepted = b .accepted;
+      made = b .made;
+      make = b .make;
+      events = b .events;
+      run = b .run;
+      calls = b .calls;
+      early = p ++ b .early;
+      prints = eo ∙ ap (λ k. p ++ k) (b .prints) ∙ sym (append-assoc p (b .early) (told (b .tally) (b .after) (answers (b .events))));
+    }
 
-turns-so : (c d : Tally) (S T : Store) (ls : List (List ℕ)) (o : List ℕ) (all : List (List ℕ)) → So c S all → Turns c S ls o d T → So d T (all ++ ls)
-turns-so c d S T [] o all so (_, ed, eT) = rw (append-nil all) (subst (λ e. So e T all) (sym ed) (subst (λ U. So c U all) (sym eT) so))
-turns-so c d S T (l ∷ ls) o all so (p, q, e, U, a, rest, _) =
-    subst (So d T) (append-assoc all (l ∷ []) ls) (turns-so e d U T ls q (all ++ (l ∷ [])) (turn-so c e S U l p all so a) rest)
+    asked : e .stage ≡ 2 → x .call ≡ 1 → Begun (l ∷ ls) o T
+    asked h k =
+        let (heap, lent, accepted, make) = made-by (getD (x .args) 0 0) r U (acts-make x S r U k a) (sym (stage-by c (x .call) (r .refusal) k) ∙ ap (λ t. t .stage) (sym ee) ∙ h) in
+        let (es, run, ec, eq) = turns-run e d U T ls q h (ap (λ t. t .first) ee ∙ first-after c (x .call) (r .refusal)) rest in
+        record {
+          before = [];
+          pages = l;
+          after = ls;
+          are = refl;
+          stage = c .stage;
+          first = c .first;
+          tally = e;
+          asks = k;
+          heap = heap;
+          lent = lent;
+          accepted = accepted;
+          made = U;
+          make = make;
+          events = es;
+          run = run;
+          calls = ec;
+          early = p;
+          prints = eo ∙ ap (λ k. p ++ k) eq;
+        }
+
+    here : e .stage ≡ 2 → Begun (l ∷ ls) o T
+    here h =
+        by-test (eqb (x .call) 1)
+        (λ t. asked h (eqb-true (x .call) 1 t))
+        (λ t. absurd (un (sym (stage-stays c (x .call) (r .refusal) (eqb-false (x .call) 1 t)) ∙ ap (λ t. t .stage) (sym ee) ∙ h)))
 
 pub script-runs : ScriptRuns
 unfolding ScriptRuns start
-script-runs x o u s two = turns-so (start .tally) (u .tally) (start .store) (u .store) (ended (start .begun) x) o [] (λ h. absurd (omega (arith, h))) (s .turns) two .1
+script-runs x o u s two = turns-begin (start .tally) (u .tally) (start .store) (u .store) (ended (start .begun) x) o (λ h. absurd (omega (arith, h))) two (s .turns)
