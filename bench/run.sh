@@ -50,5 +50,6 @@ quiet rt check drive
 for rates in '10 1' '140 5'; do
     # shellcheck disable=SC2086
     said=$(python3 bench/script.py $rates 2>&1 >"$out/script")
+    quiet drive "$out/script"
     printf 'script of %s: %s s\n' "$said" "$(least drive "$out/script")"
 done

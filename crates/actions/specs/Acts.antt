@@ -65,6 +65,6 @@ ActsBy false l S r T = Called l S r T
 unfoldable pub Acts : Line → Store → Reply → Store → Type 0
 Acts l S r T = ActsBy (eqb (l .call) 1) l S r T
 
--- how many words of the memory are the heap after a line that says n, its first argument a, and is refused by f, where w were
+-- how many words of the memory are the heap after a line that says n, its first argument a, and is answered by f, where w were
 unfoldable pub wordsAfter : ℕ → ℕ → ℕ → ℕ → ℕ
 wordsAfter n a f w = pick (eqb n 1) (pick (eqb f 0) (64 * a) 0) w

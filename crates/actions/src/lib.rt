@@ -1,4 +1,4 @@
-// What a scanned line of a script does to the store that the script drives: a call, `pages`, or nothing. No function here reads or writes.
+// What a scanned line of a script does to the store that the script drives: a call, `pages`, or nothing. No function here reads input or writes output.
 use script::Line;
 use state::Done;
 use state::Reply;

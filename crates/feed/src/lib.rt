@@ -1,4 +1,4 @@
-// A session that a script drives, fed a chunk of bytes at a time: the lines are calls on one store, and each has its answer. No function here reads or writes.
+// A session that a script drives, fed a chunk of bytes at a time: the lines are calls on one store, and each has its answer. No function here reads input or writes output.
 use state::Reply;
 use state::State;
 ghost use mathlib.Core.Path.{_≡_};

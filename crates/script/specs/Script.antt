@@ -1,5 +1,5 @@
--- What a line of a script says. A line is a list of bytes. Its words are a call's name, or its number (document 01, The calls; from 24 on those of
--- document 02's cards), and the arguments in the documents' order, written in decimal. In front may stand `as F`, which names the filler F (document 02, card 5).
+-- What a line of a script says. A line is a list of bytes, 4,096 at most; the first one may have a byte order mark in front. Its words are a call's name, or its number (document 01, The calls; from 24 on those of
+-- document 02's cards), and the arguments in the documents' order, written in decimal. In front may stand `as F`, which names the filler F (document 02, card 5). Three words are no calls: summary, help and why.
 -- Assumes nothing.
 use mathlib.Core.Bool.{Bool, not, _&&_, _||_}
 use mathlib.Core.List.{List, [], _∷_, _++_, map}

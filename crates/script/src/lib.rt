@@ -1,4 +1,4 @@
-// What a line of a script says: a call of the store by name or number, its arguments, and the filler that it names. Every function takes any bytes.
+// What a line of a script says: a call of the store by name or number, its arguments, and the filler that it names; or a word that is no call. Every function takes any bytes.
 ghost use mathlib.Core.Path.{_≡_};
 ghost use mathlib.Core.List.{List, [], map};
 ghost use Prim.Native.Nat.{ℕ, _+_};
@@ -146,7 +146,7 @@ fn place_of(w: &[u8], s: &[u8]) -> usize
     }
 }
 
-// The same among the names of the calls.
+// The same among the names of the calls, and of the words that are no calls after them.
 fn named(w: &[u8]) -> u32
     ensures { λ r. ⌜ r ≡ placed 1 (now (w .entry)) names ⌝ }
 {
@@ -156,7 +156,7 @@ fn named(w: &[u8]) -> u32
     ) as u32
 }
 
-// The number of the call that a word names or numbers, 1 for pages, 0 for none.
+// The number of the call that a word names or numbers, or of a word that is no call; 1 for pages, 0 for none.
 fn call_of(w: &[u8]) -> u32
     ensures { λ r. ⌜ r ≡ callOf (now (w .entry)) ⌝ }
 {
@@ -211,7 +211,7 @@ fn takes(n: u32, k: u32) -> bool
     k <= most(n)
 }
 
-// Whether call n may stand here with k arguments, the first of them a: pages while no store is made, and no call before a pages line; the words that are no calls anywhere.
+// Whether call n may stand here with k arguments, the first of them a: pages with 257 at most while no store is made, and no other call before a pages line; the words that are no calls anywhere.
 fn allowed(stage: u32, n: u32, k: u32, a: u32) -> bool
     ensures { λ r. ⌜ r ≡ allowed stage n k a ⌝ }
 {

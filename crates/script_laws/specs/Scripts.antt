@@ -16,7 +16,7 @@ use Rattle.store.specs.Dispatch.{isCall}
 use Rattle.script.specs.Script.{heard}
 use Rattle.actions.specs.Acts.{printed}
 use Rattle.feed.specs.declared.Tally.{Tally}
-use Rattle.feed.specs.Scripted.{ended, tallied, answer, Talk, Scripted, start, scripted}
+use Rattle.feed.specs.Scripted.{ended, tallied, answer, Turns, Talk, Scripted, start, scripted}
 
 -- Feeding x and then y is feeding x followed by y, wherever the cut.
 unfoldable pub CutAnywhere : Type 0
@@ -40,7 +40,7 @@ abbrev pub nextAnswers : Bool → List Answer → List Answer
 nextAnswers true given = drop 1 given
 nextAnswers false given = given
 
--- what lines print where c is counted and their calls have these answers, in order
+-- what lines print once a store is made, where c is counted and their calls have these answers, in order: a call's line for each answer, and between them what the lines print that are no calls
 unfoldable pub told : Tally → List (List ℕ) → List Answer → List ℕ
 told c [] given = []
 told c (l ∷ ls) given =
@@ -48,34 +48,35 @@ told c (l ∷ ls) given =
     let r = nextReply (isCall (x .call)) (x .call) given in
     answer c (x .call) (getD (x .args) 0 0) r ++ told (tallied c (x .call) (r .refusal)) ls (nextAnswers (isCall (x .call)) given)
 
--- A session that has a store: state and heap move by a run of just the calls that the lines are, and the bytes printed are the lines of their answers.
+-- A session that has a store: state and heap move by a run of just the calls that the lines are, and what is printed has the lines of their answers, with what the other lines print between them.
 unfoldable pub MadeRuns : Type 0
 MadeRuns =
     (t u : Talk) (x o : List ℕ) → Scripted t x o u → t .tally .stage ≡ 2 → t .tally .first ≡ false
     → (es : List Event) × Run (t .store) es (u .store) × (calls es ≡ scripted (ended (t .begun) x)) × (o ≡ told (t .tally) (ended (t .begun) x) (answers es))
 
--- The lines `all` have made the store T and printed o: one of them is a `pages` line, its make was accepted, and T is what a run of just the calls of the lines after it left; what these printed are the lines of their answers.
-pub record Begun (all : List (List ℕ)) (o : List ℕ) (T : Store) : Type 0 where
+-- Where c is counted and S is the store, the lines `all` make the store T, and print o: one of them is a `pages` line, its make was accepted, and T is what a run of just the calls of the lines after it left. What these print is `told`, of the run's answers.
+pub record Begun (c : Tally) (S : Store) (all : List (List ℕ)) (o : List ℕ) (T : Store) : Type 0 where
   pub before : List (List ℕ)
   pub pages : List ℕ
   pub after : List (List ℕ)
   pub are : all ≡ before ++ (pages ∷ after)
-  -- the stage of the `pages` line, whether it is the first line, and what is counted after it
-  pub stage : ℕ
-  pub first : Bool
+  -- what the lines before it print, and what is counted and the store after them
+  pub early : List ℕ
   pub tally : Tally
-  pub asks : heard stage first pages .call ≡ 1
+  pub store : Store
+  pub opens : Turns c S before early tally store
+  -- the line asks for pages: a heap of so many words, of which make makes a store
+  pub asks : heard (tally .stage) (tally .first) pages .call ≡ 1
   pub heap : List ℕ
-  pub lent : length heap ≡ 64 * getD (heard stage first pages .args) 0 0
+  pub lent : length heap ≡ 64 * getD (heard (tally .stage) (tally .first) pages .args) 0 0
   pub accepted : makes (length heap) ≡ true
   pub made : Store
   pub make : MakeOutcome heap (gives []) made
   pub events : List Event
   pub run : Run made events T
   pub calls : calls events ≡ scripted after
-  pub early : List ℕ
-  pub prints : o ≡ early ++ told tally after (answers events)
+  pub prints : o ≡ early ++ answer tally 1 0 (printed 1 (gives [])) ++ told (tallied tally 1 0) after (answers events)
 
 -- So it is with every script that has made a store: what demands 2 and 3 say of lists of calls they say of the script.
 unfoldable pub ScriptRuns : Type 0
-ScriptRuns = (x o : List ℕ) (u : Talk) → Scripted start x o u → u .tally .stage ≡ 2 → Begun (ended (start .begun) x) o (u .store)
+ScriptRuns = (x o : List ℕ) (u : Talk) → Scripted start x o u → u .tally .stage ≡ 2 → Begun (start .tally) (start .store) (ended (start .begun) x) o (u .store)

@@ -53,7 +53,7 @@ lists : scripted (lines ("declare 1 0" ∷ "delete_all 3 4 5" ∷ "delete_all" �
 unfolding lines scripted callsOf decoded bytes isBlank inWord tokens value names least most fillers placed callOf takes allowed zeros line bad given called acting said scanned unmarked fitting heard fillerPlace
 lists = refl
 
--- a filler named in front goes where its call has it, also beside a list; without one it is 0, and what follows `as` before another call is no call
+-- a filler named in front goes where its call has it, also beside a list; without one it is 0, and a line with `as` in front of another call is none
 acted : scripted (lines ("as 3 drop" ∷ "as 1 hand_back 4 5" ∷ "as 2 set_pointer 6 7 8" ∷ "as 4 23 9" ∷ "as 1 delete_all 3 2" ∷ "as 1 push 1" ∷ "drop" ∷ []))
     ≡ dropFrame 3 ∷ handBack 4 5 1 ∷ setPointer 6 7 8 2 ∷ delete 9 4 ∷ deleteAll (3 ∷ 2 ∷ []) 1 ∷ dropFrame 0 ∷ []
 unfolding lines scripted callsOf decoded bytes isBlank inWord tokens value names least most fillers placed callOf takes allowed zeros line bad given called acting said scanned unmarked fitting heard fillerPlace

@@ -20,7 +20,7 @@ use Rattle.store.specs.Dispatch.{isCall}
 use Rattle.script.specs.declared.Line.{Line}
 use Rattle.script.specs.Script.{heard}
 use Rattle.script.specs.Laws.Lines.{few-heard}
-use Rattle.actions.specs.Acts.{lineCall, callsOf, CalledBy, Called, Makes, ActsBy, Acts}
+use Rattle.actions.specs.Acts.{lineCall, callsOf, printed, CalledBy, Called, Makes, ActsBy, Acts}
 use Rattle.feed.specs.declared.Tally.{Tally}
 use Rattle.feed.specs.Scripted.{ended, tallied, answer, Turns, start, scripted}
 use Rattle.script_laws.specs.Scripts.{nextReply, nextAnswers, told, MadeRuns, Begun, ScriptRuns}
@@ -93,14 +93,14 @@ abbrev stageBy : ℕ → ℕ
 stageBy f = pick (eqb f 0) 2 1
 
 -- an accepted make: its answer, and the store, of which the heap is kept
-made-by : (n : ℕ) (r : Reply) (T : Store) → Makes n r T → stageBy (r .refusal) ≡ 2 → (heap : List ℕ) × (length heap ≡ 64 * n) × (makes (length heap) ≡ true) × MakeOutcome heap (gives []) T
+made-by : (n : ℕ) (r : Reply) (T : Store) → Makes n r T → stageBy (r .refusal) ≡ 2 → (heap : List ℕ) × (length heap ≡ 64 * n) × (makes (length heap) ≡ true) × MakeOutcome heap (gives []) T × (r ≡ printed 1 (gives []))
 unfolding MakeOutcome
 made-by n r T (heap, a, U, e, o, f, g) h = go (makes (length heap)) refl o
   where
-    go : (b : Bool) → makes (length heap) ≡ b → MakeBy b heap a U → (heap : List ℕ) × (length heap ≡ 64 * n) × (makes (length heap) ≡ true) × MakeBy (makes (length heap)) heap (gives []) T
+    go : (b : Bool) → makes (length heap) ≡ b → MakeBy b heap a U → (heap : List ℕ) × (length heap ≡ 64 * n) × (makes (length heap) ≡ true) × MakeBy (makes (length heap)) heap (gives []) T × (r ≡ printed 1 (gives []))
     go true m (ea, eU) =
         let same : T ≡ U = g ∙ ap (λ z. store (U .state) (pick (eqb (z .refusal) 0) (U .heap) [])) ea in
-        (heap, e, m, subst (λ b. MakeBy b heap (gives []) T) (sym m) (refl, same ∙ eU))
+        (heap, e, m, subst (λ b. MakeBy b heap (gives []) T) (sym m) (refl, same ∙ eU), f ∙ ap (printed 1) ea)
     go false m (ea, eU) = absurd (omega (arith, sym h ∙ ap (λ z. stageBy (z .refusal)) f ∙ ap (λ z. stageBy (z .refusal)) ea))
 
 stage-by : (c : Tally) (n f : ℕ) → n ≡ 1 → tallied c n f .stage ≡ stageBy f
@@ -111,7 +111,12 @@ acts-make : (l : Line) (S : Store) (r : Reply) (T : Store) → l .call ≡ 1 →
 unfolding Acts
 acts-make l S r T h a = rw h at a
 
-turns-begin : (c d : Tally) (S T : Store) (ls : List (List ℕ)) (o : List ℕ) → (c .stage ≡ 2 → ⊥) → d .stage ≡ 2 → Turns c S ls o d T → Begun ls o T
+-- what is printed for the `pages` line, and counted after it, where make accepts: its first argument does not matter
+pages-turn : (c : Tally) (n a : ℕ) (r : Reply) → n ≡ 1 → r ≡ printed 1 (gives []) → (answer c n a r ≡ answer c 1 0 (printed 1 (gives []))) × (tallied c n (r .refusal) ≡ tallied c 1 0)
+unfolding answer
+pages-turn c n a r e f = (rw (e, f), rw (e, f))
+
+turns-begin : (c d : Tally) (S T : Store) (ls : List (List ℕ)) (o : List ℕ) → (c .stage ≡ 2 → ⊥) → d .stage ≡ 2 → Turns c S ls o d T → Begun c S ls o T
 turns-begin c d S T [] o un two (_, ed, _) = absurd (un (ap (λ t. t .stage) (sym ed) ∙ two))
 turns-begin c d S T (l ∷ ls) o un two (p, q, e, U, (r, a, ep, ee), rest, eo) =
     by-test (eqb (e .stage) 2)
@@ -121,15 +126,16 @@ turns-begin c d S T (l ∷ ls) o un two (p, q, e, U, (r, a, ep, ee), rest, eo) =
     x : Line
     x = heard (c .stage) (c .first) l
 
-    later : Begun ls q T → Begun (l ∷ ls) o T
+    later : Begun e U ls q T → Begun c S (l ∷ ls) o T
     later b = record {
       before = l ∷ b .before;
       pages = b .pages;
       after = b .after;
       are = ap (λ k. l ∷ k) (b .are);
-      stage = b .stage;
-      first = b .first;
+      early = p ++ b .early;
       tally = b .tally;
+      store = b .store;
+      opens = (p, b .early, e, U, (r, a, ep, ee), b .opens, refl);
       asks = b .asks;
       heap = b .heap;
       lent = b .lent;
@@ -139,22 +145,26 @@ turns-begin c d S T (l ∷ ls) o un two (p, q, e, U, (r, a, ep, ee), rest, eo) =
       events = b .events;
       run = b .run;
       calls = b .calls;
-      early = p ++ b .early;
-      prints = eo ∙ ap (λ k. p ++ k) (b .prints) ∙ sym (append-assoc p (b .early) (told (b .tally) (b .after) (answers (b .events))));
+      prints =
+          let line = answer (b .tally) 1 0 (printed 1 (gives [])) in
+          let rest = told (tallied (b .tally) 1 0) (b .after) (answers (b .events)) in
+          eo ∙ ap (λ k. p ++ k) (b .prints) ∙ sym (append-assoc p (b .early ++ line) rest) ∙ ap (λ k. k ++ rest) (sym (append-assoc p (b .early) line));
     }
 
-    asked : e .stage ≡ 2 → x .call ≡ 1 → Begun (l ∷ ls) o T
+    asked : e .stage ≡ 2 → x .call ≡ 1 → Begun c S (l ∷ ls) o T
     asked h k =
-        let (heap, lent, accepted, make) = made-by (getD (x .args) 0 0) r U (acts-make x S r U k a) (sym (stage-by c (x .call) (r .refusal) k) ∙ ap (λ t. t .stage) (sym ee) ∙ h) in
+        let (heap, lent, accepted, make, er) = made-by (getD (x .args) 0 0) r U (acts-make x S r U k a) (sym (stage-by c (x .call) (r .refusal) k) ∙ ap (λ t. t .stage) (sym ee) ∙ h) in
         let (es, run, ec, eq) = turns-run e d U T ls q h (ap (λ t. t .first) ee ∙ first-after c (x .call) (r .refusal)) rest in
+        let z = pages-turn c (x .call) (getD (x .args) 0 0) r k er in
         record {
           before = [];
           pages = l;
           after = ls;
           are = refl;
-          stage = c .stage;
-          first = c .first;
-          tally = e;
+          early = [];
+          tally = c;
+          store = S;
+          opens = (refl, refl, refl);
           asks = k;
           heap = heap;
           lent = lent;
@@ -164,11 +174,10 @@ turns-begin c d S T (l ∷ ls) o un two (p, q, e, U, (r, a, ep, ee), rest, eo) =
           events = es;
           run = run;
           calls = ec;
-          early = p;
-          prints = eo ∙ ap (λ k. p ++ k) eq;
+          prints = eo ∙ ap (λ k. k ++ q) (ep ∙ z .0) ∙ ap (λ k. answer c 1 0 (printed 1 (gives [])) ++ k) (eq ∙ ap (λ t. told t ls (answers es)) (ee ∙ z .1));
         }
 
-    here : e .stage ≡ 2 → Begun (l ∷ ls) o T
+    here : e .stage ≡ 2 → Begun c S (l ∷ ls) o T
     here h =
         by-test (eqb (x .call) 1)
         (λ t. asked h (eqb-true (x .call) 1 t))
