@@ -1,0 +1,330 @@
+// The store for hosts in other languages: functions that C can call, on memory that the host lends. The state is lent as thirteen arrays, its numbers first, then its arrays in the order of its parts.
+// Pointers are aligned and not null, lengths are true, and no two buffers overlap: that the host answers for. What the memory holds does not matter.
+use frames::Frames;
+use kinds::Kinds;
+use pages::Pages;
+use regions::Regions;
+use state::State;
+ghost use mathlib.Core.Path.{_≡_};
+ghost use mathlib.Core.List.{[], _∷_};
+ghost use Prim.Native.Nat.{_≤_};
+ghost use lib.Dec.{eqb};
+ghost use lib.ListN.{length};
+ghost use lib.Seq.{sets};
+ghost use Rattle.lists.specs.Lists.{pick};
+ghost use Rattle.abi.specs.Memory.{Holds, Made, Called, Viewed, layout};
+
+// The state that the memory holds.
+fn held(
+    numbers: [u32; 5],
+    widths: &[u8; 32],
+    slots: &[u32; 256],
+    sizes: &[u8; 16],
+    marks: &[u8; 256],
+    names: &[u32; 64],
+    parents: &[u8; 64],
+    levels: &[u8; 64],
+    shares: &[u32; 256],
+    newest: &[u16; 64],
+    oldest: &[u32; 64],
+    owners: &[u8; 256],
+    taken: &[u8; 256],
+) -> State
+    ensures { λ s. ⌜ Holds s (numbers ∷ now (widths .entry) ∷ now (slots .entry) ∷ now (sizes .entry) ∷ now (marks .entry) ∷ now (names .entry) ∷ now (parents .entry) ∷ now (levels .entry) ∷ now (shares .entry) ∷ now (newest .entry) ∷ now (oldest .entry) ∷ now (owners .entry) ∷ now (taken .entry) ∷ []) ⌝ }
+{
+    let s = State {
+        frames: Frames {
+            standing: numbers[0],
+            counted: numbers[1],
+            widths: *widths,
+            slots: *slots,
+        },
+        kinds: Kinds {
+            declared: numbers[2],
+            sizes: *sizes,
+            marks: *marks,
+        },
+        regions: Regions {
+            given: numbers[3],
+            names: *names,
+            parents: *parents,
+            levels: *levels,
+            shares: *shares,
+            newest: *newest,
+            oldest: *oldest,
+        },
+        pages: Pages {
+            made: numbers[4],
+            owners: *owners,
+            taken: *taken,
+        },
+    };
+    shapes::state_shaped(s);
+    s
+}
+
+// The memory holds the state.
+fn hold(
+    s: State,
+    numbers: &mut [u32; 5],
+    widths: &mut [u8; 32],
+    slots: &mut [u32; 256],
+    sizes: &mut [u8; 16],
+    marks: &mut [u8; 256],
+    names: &mut [u32; 64],
+    parents: &mut [u8; 64],
+    levels: &mut [u8; 64],
+    shares: &mut [u32; 256],
+    newest: &mut [u16; 64],
+    oldest: &mut [u32; 64],
+    owners: &mut [u8; 256],
+    taken: &mut [u8; 256],
+)
+    ensures { λ _. ⌜ Holds s (now (numbers .exit) ∷ now (widths .exit) ∷ now (slots .exit) ∷ now (sizes .exit) ∷ now (marks .exit) ∷ now (names .exit) ∷ now (parents .exit) ∷ now (levels .exit) ∷ now (shares .exit) ∷ now (newest .exit) ∷ now (oldest .exit) ∷ now (owners .exit) ∷ now (taken .exit) ∷ []) ⌝ }
+{
+    shapes::state_shaped(s);
+    *numbers = [
+        s.frames.standing,
+        s.frames.counted,
+        s.kinds.declared,
+        s.regions.given,
+        s.pages.made,
+    ];
+    let widths_then = s.frames.widths;
+    *widths = widths_then;
+    let slots_then = s.frames.slots;
+    *slots = slots_then;
+    let sizes_then = s.kinds.sizes;
+    *sizes = sizes_then;
+    let marks_then = s.kinds.marks;
+    *marks = marks_then;
+    let names_then = s.regions.names;
+    *names = names_then;
+    let parents_then = s.regions.parents;
+    *parents = parents_then;
+    let levels_then = s.regions.levels;
+    *levels = levels_then;
+    let shares_then = s.regions.shares;
+    *shares = shares_then;
+    let newest_then = s.regions.newest;
+    *newest = newest_then;
+    let oldest_then = s.regions.oldest;
+    *oldest = oldest_then;
+    let owners_then = s.pages.owners;
+    *owners = owners_then;
+    let taken_then = s.pages.taken;
+    *taken = taken_then;
+}
+
+// Make: what the arrays held does not matter. The reply is the refusal's number, 0 where the call was accepted, and four values.
+#[no_mangle]
+pub extern "C" fn region_store_make(
+    numbers: &mut [u32; 5],
+    widths: &mut [u8; 32],
+    slots: &mut [u32; 256],
+    sizes: &mut [u8; 16],
+    marks: &mut [u8; 256],
+    names: &mut [u32; 64],
+    parents: &mut [u8; 64],
+    levels: &mut [u8; 64],
+    shares: &mut [u32; 256],
+    newest: &mut [u16; 64],
+    oldest: &mut [u32; 64],
+    owners: &mut [u8; 256],
+    taken: &mut [u8; 256],
+    heap: &mut [u32],
+    reply: &mut [u32; 5],
+)
+    ensures { λ _. ⌜ Made (now (heap .entry)) (now (numbers .exit) ∷ now (widths .exit) ∷ now (slots .exit) ∷ now (sizes .exit) ∷ now (marks .exit) ∷ now (names .exit) ∷ now (parents .exit) ∷ now (levels .exit) ∷ now (shares .exit) ∷ now (newest .exit) ∷ now (oldest .exit) ∷ now (owners .exit) ∷ now (taken .exit) ∷ []) (now (heap .exit)) (now (reply .exit)) ⌝ }
+{
+    let e = store::make(heap);
+    hold(
+        e.state,
+        numbers,
+        widths,
+        slots,
+        sizes,
+        marks,
+        names,
+        parents,
+        levels,
+        shares,
+        newest,
+        oldest,
+        owners,
+        taken,
+    );
+    *reply = [e.reply.refusal, e.reply.a, e.reply.b, e.reply.c, e.reply.d];
+}
+
+// Any call but make, by its number, as `store::call` takes it.
+#[no_mangle]
+pub extern "C" fn region_store_call(
+    numbers: &mut [u32; 5],
+    widths: &mut [u8; 32],
+    slots: &mut [u32; 256],
+    sizes: &mut [u8; 16],
+    marks: &mut [u8; 256],
+    names: &mut [u32; 64],
+    parents: &mut [u8; 64],
+    levels: &mut [u8; 64],
+    shares: &mut [u32; 256],
+    newest: &mut [u16; 64],
+    oldest: &mut [u32; 64],
+    owners: &mut [u8; 256],
+    taken: &mut [u8; 256],
+    heap: &mut [u32],
+    number: u32,
+    a: u32,
+    b: u32,
+    c: u32,
+    d: u32,
+    list: &[u32],
+    reply: &mut [u32; 5],
+)
+    ensures { λ _. ⌜ Called number a b c d (now (list .entry)) (now (numbers .entry) ∷ now (widths .entry) ∷ now (slots .entry) ∷ now (sizes .entry) ∷ now (marks .entry) ∷ now (names .entry) ∷ now (parents .entry) ∷ now (levels .entry) ∷ now (shares .entry) ∷ now (newest .entry) ∷ now (oldest .entry) ∷ now (owners .entry) ∷ now (taken .entry) ∷ []) (now (heap .entry)) (now (numbers .exit) ∷ now (widths .exit) ∷ now (slots .exit) ∷ now (sizes .exit) ∷ now (marks .exit) ∷ now (names .exit) ∷ now (parents .exit) ∷ now (levels .exit) ∷ now (shares .exit) ∷ now (newest .exit) ∷ now (oldest .exit) ∷ now (owners .exit) ∷ now (taken .exit) ∷ []) (now (heap .exit)) (now (reply .exit)) ⌝ }
+{
+    let n = *numbers;
+    let s = held(
+        n,
+        widths,
+        slots,
+        sizes,
+        marks,
+        names,
+        parents,
+        levels,
+        shares,
+        newest,
+        oldest,
+        owners,
+        taken,
+    );
+    let e = store::call(s, heap, number, a, b, c, d, list);
+    hold(
+        e.state,
+        numbers,
+        widths,
+        slots,
+        sizes,
+        marks,
+        names,
+        parents,
+        levels,
+        shares,
+        newest,
+        oldest,
+        owners,
+        taken,
+    );
+    *reply = [e.reply.refusal, e.reply.a, e.reply.b, e.reply.c, e.reply.d];
+}
+
+// The length of a part that has at most 16 words.
+fn few(part: &[u32]) -> u32
+    ensures { λ r. ⌜ (length (now (part .entry)) ≤ 16 → r ≡ length (now (part .entry))) ⌝ }
+{
+    (part.len() % 4294967296) as u32
+}
+
+// Where a part begins that has so many words, of the object that v leads to.
+fn place_of(v: u32, count: u32) -> u32
+    ensures { λ r. ⌜ r ≡ pick (eqb count 0) 0 v ⌝ }
+{
+    if count == 0 { 0 } else { v }
+}
+
+// View: the refusal's number, and the part as its place and its length in the heap, both 0 where there is none.
+#[no_mangle]
+pub extern "C" fn region_store_view(
+    numbers: &[u32; 5],
+    widths: &[u8; 32],
+    slots: &[u32; 256],
+    sizes: &[u8; 16],
+    marks: &[u8; 256],
+    names: &[u32; 64],
+    parents: &[u8; 64],
+    levels: &[u8; 64],
+    shares: &[u32; 256],
+    newest: &[u16; 64],
+    oldest: &[u32; 64],
+    owners: &[u8; 256],
+    taken: &[u8; 256],
+    heap: &[u32],
+    slot: u32,
+    out: &mut [u32; 3],
+)
+    ensures { λ _. ⌜ Viewed slot (now (numbers .entry) ∷ now (widths .entry) ∷ now (slots .entry) ∷ now (sizes .entry) ∷ now (marks .entry) ∷ now (names .entry) ∷ now (parents .entry) ∷ now (levels .entry) ∷ now (shares .entry) ∷ now (newest .entry) ∷ now (oldest .entry) ∷ now (owners .entry) ∷ now (taken .entry) ∷ []) (now (heap .entry)) (now (out .exit)) ⌝ }
+{
+    let n = *numbers;
+    let s = held(
+        n,
+        widths,
+        slots,
+        sizes,
+        marks,
+        names,
+        parents,
+        levels,
+        shares,
+        newest,
+        oldest,
+        owners,
+        taken,
+    );
+    let refusal = store::view_refusal(s, heap, slot);
+    let part = store::view(s, heap, slot);
+    let f = s.frames;
+    let v = checks::top_slot(f.standing, &f.slots, slot);
+    let count = few(part);
+    *out = [refusal, place_of(v, count), count];
+}
+
+// Numbers written from the start on, as far as there is room.
+fn write(out: &mut [u32], l: &[u32])
+    ensures { λ _. ⌜ now (out .exit) ≡ sets (now (out .entry)) 0 (now (l .entry)) ⌝ }
+{
+    let mut i: usize = 0;
+    while i < l.len() {
+        cells::store(out, i, l[i]);
+        i += 1;
+    }
+}
+
+// The layout: its version, then for each array the bytes of an element and how many elements there are; as far as there is room. Gives how many numbers that are.
+#[no_mangle]
+pub extern "C" fn region_store_layout(out: &mut [u32]) -> usize
+    ensures { λ r. ⌜ (now (out .exit) ≡ sets (now (out .entry)) 0 layout) × (r ≡ length layout) ⌝ }
+{
+    let l = [
+        1u32,
+        4,
+        5,
+        1,
+        32,
+        4,
+        256,
+        1,
+        16,
+        1,
+        256,
+        4,
+        64,
+        1,
+        64,
+        1,
+        64,
+        4,
+        256,
+        2,
+        64,
+        4,
+        64,
+        1,
+        256,
+        1,
+        256,
+    ];
+    write(out, &l);
+    27
+}
