@@ -1,1 +1,3 @@
 pub mod Memory
+pub mod Hosts
+pub mod Laws

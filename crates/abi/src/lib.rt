@@ -137,9 +137,9 @@ pub extern "C" fn region_store_make(
 )
     ensures { λ _. ⌜ Made (now (heap .entry)) (now (numbers .exit) ∷ now (widths .exit) ∷ now (slots .exit) ∷ now (sizes .exit) ∷ now (marks .exit) ∷ now (names .exit) ∷ now (parents .exit) ∷ now (levels .exit) ∷ now (shares .exit) ∷ now (newest .exit) ∷ now (oldest .exit) ∷ now (owners .exit) ∷ now (taken .exit) ∷ []) (now (heap .exit)) (now (reply .exit)) ⌝ }
 {
-    let e = store::make(heap);
+    let m = store::make(heap);
     hold(
-        e.state,
+        m.state,
         numbers,
         widths,
         slots,
@@ -154,7 +154,7 @@ pub extern "C" fn region_store_make(
         owners,
         taken,
     );
-    *reply = [e.reply.refusal, e.reply.a, e.reply.b, e.reply.c, e.reply.d];
+    *reply = [m.reply.refusal, m.reply.a, m.reply.b, m.reply.c, m.reply.d];
 }
 
 // Any call but make, by its number, as `store::call` takes it.

@@ -1,0 +1,885 @@
+#!/usr/bin/env python3
+"""Tests of region_store.py: python3 test_region_store.py [-v]
+
+Refusal 21 cannot be had: a Store keeps its state and its heap together.
+"""
+
+import contextlib
+import copy
+import doctest
+import enum
+import gc
+import inspect
+import io
+import os
+import pathlib
+import pickle
+import shutil
+import signal
+import struct
+import subprocess
+import sys
+import tempfile
+import threading
+import time
+import unittest
+import zlib
+
+import play
+import region_store
+from region_store import (
+    CALLS, FILES, LAST, LAYOUT, MESSAGES, REASONS, REFUSALS, STATE_BYTES,
+    About, Locate, NotLoaded, NotSaved, Refused, Report, Store, Totals,
+)
+
+HERE = pathlib.Path(__file__).resolve().parent
+HEAD = 20  # bytes of a file before the state
+NAMED = {call.name: call for call in CALLS.values()}
+METHODS = [call for call in CALLS.values() if call.name != "make"]
+
+
+def load_tests(loader, tests, pattern):
+    tests.addTests(doctest.DocTestSuite(region_store))
+    return tests
+
+
+def is_list(word):
+    return word.endswith("..")
+
+
+def small():
+    """A store of two pages: in slot 0 an object of region 1, in slot 1 one of region 2, to which
+    the first leads; kind 1 is a free pointer and a number, kind 2 two numbers; slot 2 is null."""
+    store = Store(2)
+    store.declare([1, 0])
+    store.declare([0, 0])
+    store.push(3)
+    store.new_region()
+    store.allocate(0, 1, 1)
+    store.allocate(1, 2, 1)
+    store.set_pointer(0, 0, 1)
+    store.put(0, 1, 77)
+    return store
+
+
+def place_of(name):
+    """Where an array of the state begins in a file."""
+    place = HEAD
+    for array, width, length in LAYOUT:
+        if array == name:
+            return place
+        place += width * length
+    raise KeyError(name)
+
+
+def mended(data):
+    """The bytes with the right sum."""
+    return data[:-4] + struct.pack("<I", zlib.crc32(data[:-4]))
+
+
+class Recorder(Store):
+    """A store that notes which methods are asked for."""
+
+    used = set()
+
+    def __getattribute__(self, name):
+        Recorder.used.add(name)
+        return super().__getattribute__(name)
+
+
+class Calls(unittest.TestCase):
+    """What a user sees of each call."""
+
+    def test_every_call(self):
+        Recorder.used.clear()
+        store = Recorder(3)
+        self.regions_and_frames(store)
+        self.objects(store)
+        self.ends(store)
+        self.assertEqual({call.name for call in METHODS} - Recorder.used, set())
+
+    def regions_and_frames(self, store):
+        self.assertEqual(store.declare([1, 0]), 1)
+        self.assertEqual(store.declare(mark for mark in (0, 0, 0)), 2)
+        self.assertEqual(store.new_region(), 2)
+        self.assertEqual(store.subregion(2), 3)
+        self.assertEqual(store.push(2), 1)
+        self.assertEqual(store.push(3), 2)
+        self.assertEqual(store.totals(), Totals(3, 3, 2, 0))
+        self.assertEqual(store.totals().free_pages, 3)
+
+    def objects(self, store):
+        self.assertIsNone(store.allocate(0, 2, 1))
+        self.assertIsNone(store.allocate(1, 3, 2))
+        self.assertIsNone(store.set_pointer(0, 0, 1, filler=3))
+        self.assertIsNone(store.put(1, 2, LAST))
+        self.assertEqual(store.get(1, 2), LAST)
+        self.assertEqual(list(store.view(1)), [0, 0, LAST])
+        self.assertIsNone(store.load(0, 0, 2))
+        self.assertIs(store.same(1, 2), True)
+        self.assertIs(store.same(0, 2), False)
+        self.assertIsNone(store.copy(0, 2))
+        self.assertIs(store.same(0, 2), True)
+        self.assertIsNone(store.first(2, 3))
+        self.assertEqual(store.about(2), About(region=3, kind=2))
+        self.assertEqual(store.locate(2), Locate(page=1, word=0))
+        self.assertIsNone(store.clear(2))
+        self.assertEqual(store.about(2), (0, 0))
+        self.assertEqual(store.locate(2), (256, 0))
+        self.assertEqual(store.report(3), Report(1, 2, 1, 0))
+        self.assertEqual(store.report(region=2).subregions, 1)
+
+    def ends(self, store):
+        self.assertEqual(store.hand_back(0, 1, filler=1), 1)
+        self.assertEqual(store.push(1), 2)
+        self.assertIsNone(store.fetch(1, 0))
+        self.assertEqual(store.about(0), (2, 1))
+        self.assertEqual(store.drop(filler=2), 1)
+        self.assertIsNone(store.clear(1))
+        self.assertEqual(store.delete_all([3, 2], filler=1), 2)
+        self.assertEqual(store.delete(store.new_region()), 0)
+        self.assertIs(store.audit(), True)
+        self.assertEqual(repr(store), "<Recorder: pages=3, free_pages=3, regions=1, frames=1, counted=0>")
+        self.assertEqual(store.drop(), 0)
+
+    def test_fillers(self):
+        for filler in range(4):
+            store = small()
+            store.set_pointer(0, 0, 2)
+            before = self.shares(store)
+            store.set_pointer(0, 0, 1, filler=filler)
+            moved = [new - old for new, old in zip(self.shares(store), before)]
+            self.assertEqual(moved, [0] * (4 + filler) + [1] + [0] * (251 - filler))
+
+    def shares(self, store):
+        return struct.unpack_from("<256I", store.image(), place_of("shares") - HEAD)
+
+    def test_session(self):
+        expected = (HERE / "../../crates/session/stdout").read_text()
+        out = io.StringIO()
+        player = play.Player(0)
+        with contextlib.redirect_stdout(out):
+            with open(HERE / "../tests/session.txt", encoding="utf-8") as script:
+                player.play(script)
+            player.end(None)
+        self.assertEqual(out.getvalue(), expected)
+
+    def test_call(self):
+        store = small()
+        self.assertEqual(store.call(16, 0, 1), (0, 77, 0, 0, 0))
+        self.assertEqual(store.call(number=20, a=2), (0, 1, 2, 1, 0))
+        self.assertEqual(store.call(23, 2), (19, 0, 0, 0, 0))
+        self.assertEqual(store.call(2, list=(0, 4)), (0, 3, 0, 0, 0))
+        self.assertEqual(store.call(2), (11, 0, 0, 0, 0))
+        self.assertEqual(store.call(2, list=range(17)), (11, 0, 0, 0, 0))
+        self.assertEqual(store.call(14, 0, 0, 2, 3), (0, 0, 0, 0, 0))
+        self.assertEqual(store.call(12, 1), (0, 0, 0, 0, 0))
+        self.assertEqual(store.call(24, 4, list=[2]), (23, 0, 0, 0, 0))
+        self.assertEqual(store.call(24, 1, list=[2]), (0, 1, 0, 0, 0))
+
+    def test_a_method_for_each_call(self):
+        for call in METHODS:
+            method = getattr(Store, call.name)
+            given = list(inspect.signature(method).parameters.values())[1:]
+            names = [word.rstrip(".") for word in call.arguments]
+            self.assertEqual([one.name.rstrip("_") for one in given], names, call.name)
+            if "filler" in names:
+                self.assertEqual(given[-1].default, 0)
+                self.assertEqual(given[-1].kind, inspect.Parameter.KEYWORD_ONLY)
+
+    def test_docstrings(self):
+        for call in METHODS:
+            text = " ".join(getattr(Store, call.name).__doc__.split())
+            at = 0
+            for number in call.refusals:
+                found = text.find(f"{number} {REFUSALS[number]}: {REASONS[number]}", at)
+                self.assertGreaterEqual(found, at, (call.name, number))
+                at = found + 1
+            for word in call.arguments:
+                self.assertIn(word.rstrip("."), text)
+            if not call.refusals:
+                self.assertIn("Never refused", text)
+
+
+class Refusals(unittest.TestCase):
+    """Each refusal that can be had, with its name and reason; nothing changes by it."""
+
+    def setUp(self):
+        self.seen = set()
+
+    def refused(self, number, store, name, *arguments, **filler):
+        before = store.image()
+        with self.assertRaises(Refused) as caught:
+            getattr(store, name)(*arguments, **filler)
+        error = caught.exception
+        self.assertEqual((error.number, error.call), (number, name))
+        self.assertEqual((error.name, error.reason), (REFUSALS[number], REASONS[number]))
+        self.assertEqual(str(error), f"{name}: refused by {number}: {REASONS[number]}")
+        self.assertIn(number, NAMED[name].refusals)
+        self.assertEqual(store.image(), before)
+        self.seen.add(number)
+
+    def test_all(self):
+        self.of_make()
+        self.of_frames()
+        self.of_objects()
+        self.of_words()
+        self.of_deletes()
+        self.of_what_is_full()
+        self.of_names()
+        self.of_call()
+        self.assertEqual(set(REFUSALS) - self.seen, {21})
+
+    def of_make(self):
+        for pages in (0, 257, 258, -1, -(10**30), 2**26, 2**32 + 1, 10**30):
+            with self.assertRaises(Refused) as caught:
+                Store(pages)
+            self.assertEqual((caught.exception.number, caught.exception.call), (1, "make"))
+        self.seen.add(1)
+        for pages in (1, 256):
+            self.assertEqual(Store(pages).pages, pages)
+            self.assertEqual(len(Store(pages).heap), 64 * pages)
+        for pages in (1.0, "1", None):
+            with self.assertRaises(TypeError):
+                Store(pages)
+
+    def of_frames(self):
+        store = Store(1)
+        self.refused(6, store, "drop")
+        self.refused(8, store, "push", 0)
+        self.refused(8, store, "push", 9)
+        store.push(1)
+        self.refused(9, store, "clear", 1)
+        self.refused(6, store, "fetch", 0, 0)
+        self.refused(23, store, "drop", filler=4)
+        self.refused(23, store, "delete", 1, filler=LAST)
+
+    def of_objects(self):
+        store = small()
+        self.refused(11, store, "declare", [])
+        self.refused(11, store, "declare", [5])
+        self.refused(11, store, "declare", [0] * 100000)
+        self.refused(12, store, "allocate", 2, 1, 3)
+        self.refused(2, store, "allocate", 2, 9, 1)
+        store.new_region()
+        self.refused(13, store, "allocate", 2, 3, 1)
+
+    def of_words(self):
+        store = small()
+        self.refused(14, store, "get", 2, 0)
+        self.refused(14, store, "view", 2)
+        self.refused(9, store, "view", 3)
+        self.refused(15, store, "put", 0, 2, 1)
+        self.refused(16, store, "get", 0, 0)
+        self.refused(16, store, "view", 0)
+        store.allocate(2, 1, store.declare([2, 4]))
+        self.refused(17, store, "set_pointer", 2, 0, 1)
+
+    def of_deletes(self):
+        store = small()
+        self.refused(3, store, "delete", 1)
+        self.refused(2, store, "delete", 3)
+        self.refused(19, store, "delete", 2)
+        self.refused(19, store, "delete_all", [2])
+        self.refused(22, store, "delete_all", [])
+        self.refused(22, store, "delete_all", [2, 2])
+        self.refused(22, store, "delete_all", range(2, 19))
+        self.refused(3, store, "delete_all", {1})
+        store.subregion(2)
+        self.refused(18, store, "delete", 2)
+        self.refused(18, store, "delete_all", [2])
+
+    def of_what_is_full(self):
+        store = small()
+        region = 1
+        while store.call(4, region)[0] == 0:
+            region = store.totals().regions
+        self.refused(20, store, "subregion", region)
+        while store.call(3)[0] == 0:
+            pass
+        self.refused(4, store, "new_region")
+        while store.call(2, list=[0])[0] == 0:
+            pass
+        self.refused(10, store, "declare", [0])
+        while store.call(5, 8)[0] == 0:
+            pass
+        self.refused(7, store, "push", 1)
+        self.assertEqual(store.totals(), Totals(0, 64, 32, 0))
+        self.assertTrue(store.audit())
+
+    def of_names(self):
+        data = bytearray(small()._saved())
+        struct.pack_into("<I", data, HEAD + 12, 999999)
+        with tempfile.TemporaryDirectory() as folder:
+            path = pathlib.Path(folder, "many")
+            path.write_bytes(mended(bytes(data)))
+            store = Store.from_file(path)
+        self.assertEqual(store.new_region(), 1000000)
+        self.refused(5, store, "new_region")
+        self.refused(5, store, "subregion", 2)
+
+    def of_call(self):
+        store = small()
+        before = store.image()
+        for number in (0, 1, max(CALLS) + 1, LAST):
+            self.assertEqual(store.call(number, 1, 2, 3, 4, [5]), (24, 0, 0, 0, 0))
+        self.assertEqual(store.image(), before)
+        self.seen.add(24)
+
+
+class Index:
+    """Not an int, but an integer."""
+
+    def __init__(self, number):
+        self.number = number
+
+    def __index__(self):
+        return self.number
+
+
+class Slot(enum.IntEnum):
+    CLUE = 0
+
+
+class Numbers(unittest.TestCase):
+    """Nothing is cut to 32 bits: what is no number from 0 to 2**32 - 1 never reaches the library."""
+
+    WRONG = ((-1, ValueError), (2**32, ValueError), (2**32 + 1, ValueError), (2**64, ValueError),
+             (-(2**64), ValueError), (1.0, TypeError), (float("nan"), TypeError), ("1", TypeError),
+             (b"1", TypeError), (None, TypeError), ([1], TypeError), ({1}, TypeError))
+
+    def setUp(self):
+        self.store = small()
+        self.before = self.store.image()
+
+        def called(*_):
+            self.fail("the library was called")
+
+        self.kept = self.store._call, self.store._view
+        self.store._call = self.store._view = called
+
+    def tearDown(self):
+        self.store._call, self.store._view = self.kept
+        self.assertEqual(self.store.image(), self.before)
+
+    def test_methods(self):
+        for call in METHODS:
+            for place, word in enumerate(call.arguments):
+                for wrong, error in self.WRONG:
+                    numbers = [(1,) if is_list(one) else 1 for one in call.arguments]
+                    numbers[place] = [wrong] if is_list(word) else wrong
+                    given = {}
+                    if call.arguments[-1] == "filler":
+                        given["filler"] = numbers.pop()
+                    with self.subTest(call=call.name, word=word, wrong=wrong):
+                        with self.assertRaises(error) as caught:
+                            getattr(self.store, call.name)(*numbers, **given)
+                        self.assertTrue(str(caught.exception).startswith(call.name + ": "))
+
+    def test_call(self):
+        for place in range(5):
+            for wrong, error in self.WRONG:
+                numbers = [12, 1, 1, 1, 1]
+                numbers[place] = wrong
+                with self.assertRaises(error):
+                    self.store.call(*numbers)
+                with self.assertRaises(error):
+                    self.store.call(*numbers, list=[1])
+        for wrong, error in self.WRONG[:-2]:
+            with self.assertRaises(error):
+                self.store.call(2, list=[0, wrong])
+        for wrong in ("1", 1, None, [[1]]):
+            with self.assertRaises(TypeError):
+                self.store.call(2, list=wrong)
+            with self.assertRaises(TypeError):
+                self.store.delete_all(wrong)
+
+    def test_no_list_is_null(self):
+        lent = []
+        self.store._call = lambda *given: lent.append(given)
+        for marks in ((), [], range(0), [1]):
+            self.store.declare(marks)
+            self.store.call(2, list=marks)
+        for given in lent:
+            at, count = given[5:7]
+            self.assertTrue(at is region_store._NO_LIST or at.value)
+            self.assertTrue(count is region_store._NO_COUNT or count.value < 2)
+
+    def test_integers_of_other_types(self):
+        store = small()
+        store.put(Slot.CLUE, True, Index(LAST))
+        self.assertEqual(store.get(Index(0), Index(1)), LAST)
+        self.assertEqual(store.call(Index(16), Slot.CLUE, True), (0, LAST, 0, 0, 0))
+        store.put(0, 1, 0)
+        self.assertEqual(store.get(0, 1), 0)
+        with self.assertRaises(ValueError):
+            store.put(0, 1, Index(2**32))
+        for marks in (bytes([1, 0]), (1, Index(0)), {0: "x"}, range(3), iter([4])):
+            self.assertGreater(store.declare(marks), 2)
+
+
+class Views(unittest.TestCase):
+    """View and heap are the memory itself."""
+
+    def test_a_put_shows(self):
+        store = small()
+        store.allocate(2, 1, 2)
+        view = store.view(2)
+        heap = store.heap
+        self.assertEqual((view.format, view.itemsize, view.readonly), ("I", 4, True))
+        self.assertEqual((heap.format, len(heap), heap.readonly), ("I", 128, True))
+        store.put(2, 1, 123456789)
+        self.assertEqual(view.tolist(), [0, 123456789])
+        page, word = store.locate(2)
+        self.assertEqual(heap[64 * page + word + 2], 123456789)
+        with self.assertRaises(TypeError):
+            view[0] = 1
+        with self.assertRaises(TypeError):
+            heap[0] = 1
+
+    def test_after_a_delete(self):
+        store = Store(1)
+        store.declare([0, 0])
+        store.push(1)
+        store.allocate(0, store.new_region(), 1)
+        view = store.view(0)
+        store.put(0, 0, 5)
+        store.clear(0)
+        store.delete(2)
+        store.allocate(0, store.new_region(), 1)
+        store.put(0, 1, 6)
+        self.assertEqual(view.tolist(), [0, 6])
+
+    def test_it_keeps_the_heap(self):
+        store = small()
+        store.allocate(2, 1, 2)
+        store.put(2, 0, 4711)
+        views = [store.view(2) for _ in range(3)]
+        store.heap.release()
+        views.pop().release()
+        self.assertEqual(store.view(2)[0], 4711)
+        del store
+        gc.collect()
+        others = [Store(2) for _ in range(200)]
+        self.assertEqual([view[0] for view in views], [4711, 4711])
+        self.assertEqual(len(others), 200)
+
+    def test_places_are_aligned(self):
+        self.assertEqual(sum(width * length for _, width, length in LAYOUT), STATE_BYTES)
+        for name, width, _ in LAYOUT:
+            self.assertEqual((place_of(name) - HEAD) % width, 0)
+        for pages in range(1, 257):
+            self.assertEqual(region_store.ctypes.addressof(Store(pages)._memory) % 4, 0)
+
+
+class Callers(unittest.TestCase):
+    """One caller at a time."""
+
+    def setUp(self):
+        interval = sys.getswitchinterval()
+        sys.setswitchinterval(1e-6)
+        self.addCleanup(sys.setswitchinterval, interval)
+
+    def run_all(self, work, count):
+        wrong = []
+
+        def guarded(index):
+            try:
+                work(index)
+            except BaseException as error:
+                wrong.append(error)
+
+        threads = [threading.Thread(target=guarded, args=(index,)) for index in range(count)]
+        for thread in threads:
+            thread.start()
+        for thread in threads:
+            thread.join()
+        self.assertEqual(wrong, [])
+
+    def test_threads_on_one_store(self):
+        store = Store(4)
+        store.declare([0, 0, 0])
+        store.push(8)
+        for slot in range(6):
+            store.allocate(slot, 1, 1)
+
+        def work(slot):
+            for number in range(slot, 6 * 3000, 6):
+                store.put(slot, 1, number)
+                assert store.get(slot, 1) == number
+                assert store.view(slot)[1] == number
+                assert store.call(16, slot, 1) == (0, number, 0, 0, 0)
+                assert store.call(12, 8)[0] == 9
+
+        self.run_all(work, 6)
+        self.assertTrue(store.audit())
+
+    def test_several_calls_together(self):
+        store = Store(4)
+
+        def work(index):
+            for _ in range(1000):
+                with store:
+                    assert store.push(1 + index) == 1
+                    store.first(index, 1)
+                    assert store.drop(filler=index) == 0
+
+        self.run_all(work, 4)
+        self.assertTrue(store.audit())
+
+    def test_a_thread_waits(self):
+        store = small()
+        answers = []
+        thread = threading.Thread(target=lambda: answers.append(store.get(0, 1)))
+        with store as held:
+            self.assertIs(held, store)
+            thread.start()
+            time.sleep(0.05)
+            self.assertEqual(answers, [])
+            store.put(0, 1, 78)
+        thread.join()
+        self.assertEqual(answers, [78])
+
+    def test_a_handler_may_call(self):
+        store = small()
+        times = []
+
+        def handler(*_):
+            times.append(store.report(2))
+
+        kept = signal.signal(signal.SIGALRM, handler)
+        signal.setitimer(signal.ITIMER_REAL, 0.0002, 0.0002)
+        try:
+            until = time.monotonic() + 0.5
+            while time.monotonic() < until:
+                self.assertEqual(store.get(0, 1), 77)
+                self.assertEqual(store.call(16, 0, 0), (16, 0, 0, 0, 0))
+        finally:
+            signal.setitimer(signal.ITIMER_REAL, 0)
+            signal.signal(signal.SIGALRM, kept)
+        self.assertGreater(len(times), 10)
+        self.assertEqual(set(times), {Report(1, 2, 1, 0)})
+
+
+class Named(Store):
+    """A store with something of its own."""
+
+
+class Copies(unittest.TestCase):
+    """Copies have memory of their own."""
+
+    def test_copies(self):
+        store = small()
+        for way in (copy.copy, copy.deepcopy, lambda one: pickle.loads(pickle.dumps(one))):
+            other = way(store)
+            self.assertIs(type(other), Store)
+            self.assertEqual(other.image(), store.image())
+            other.put(0, 1, 1)
+            other.drop()
+            self.assertEqual(store.get(0, 1), 77)
+            self.assertEqual(store.totals().frames, 1)
+            self.assertTrue(other.audit())
+
+    def test_subclass(self):
+        store = Named(1)
+        store.title = "spring"
+        other = copy.copy(store)
+        self.assertIs(type(other), Named)
+        self.assertEqual(other.title, "spring")
+        with self.assertRaises(AttributeError):
+            Store(1).title = "none"
+
+    def test_exceptions(self):
+        for error in (Refused("get", 9), NotLoaded("x", 2), NotSaved("x", 10)):
+            other = pickle.loads(pickle.dumps(error))
+            self.assertEqual((str(other), vars(other)), (str(error), vars(error)))
+
+    def test_a_spoilt_pickle(self):
+        data = bytearray(small()._saved())
+        data[HEAD] ^= 1
+        with self.assertRaises(NotLoaded) as caught:
+            region_store._restored(Store, bytes(data))
+        self.assertEqual(caught.exception.name, "wrong_sum")
+
+
+class Files(unittest.TestCase):
+    """Saving and loading."""
+
+    def setUp(self):
+        folder = tempfile.TemporaryDirectory()
+        self.addCleanup(folder.cleanup)
+        self.folder = pathlib.Path(folder.name)
+        self.path = self.folder / "one.store"
+
+    def names(self):
+        return sorted(os.listdir(self.folder))
+
+    def not_loaded(self, data, name):
+        self.path.write_bytes(data)
+        with self.assertRaises(NotLoaded) as caught:
+            Store.from_file(self.path)
+        error = caught.exception
+        self.assertEqual(error.name, name)
+        self.assertEqual(FILES[error.number], name)
+        self.assertEqual(error.message, MESSAGES[error.number])
+        self.assertEqual(str(error), f"{error.message}: {str(self.path)!r}")
+
+    def test_round_trip(self):
+        for pages in (1, 2, 256):
+            store = Store(pages)
+            store.push(1)
+            store.allocate(0, 1, store.declare([0]))
+            store.put(0, 0, 0x01020304)
+            store.save(self.path)
+            self.assertEqual(self.names(), ["one.store"])
+            other = Store.from_file(str(self.path))
+            self.assertEqual(other.image(), store.image())
+            self.assertEqual((other.pages, other.get(0, 0)), (pages, 0x01020304))
+            data = self.path.read_bytes()
+            self.assertEqual(len(data), 8 + 12 + STATE_BYTES + 256 * pages + 4)
+            self.assertEqual(data[:HEAD], b"REGSTORE" + struct.pack("<III", 1, STATE_BYTES, 64 * pages))
+            self.assertEqual(data[HEAD:-4], store.image())
+
+    def test_kinds_of_paths(self):
+        store = small()
+        for path in (self.path, str(self.path), os.fsencode(self.path)):
+            store.save(path)
+            self.assertEqual(Store.from_file(path).image(), store.image())
+            self.path.unlink()
+        with self.assertRaises(TypeError):
+            store.save(3)
+        here = os.getcwd()
+        self.addCleanup(os.chdir, here)
+        os.chdir(self.folder)
+        store.save("short")
+        self.assertEqual(Store.from_file("short").image(), store.image())
+
+    def not_saved(self, store, path):
+        with self.assertRaises(NotSaved) as caught:
+            store.save(path)
+        error = caught.exception
+        self.assertEqual((error.number, error.name), (10, "unwritable"))
+        self.assertEqual(error.message, MESSAGES[10])
+        self.assertIsInstance(error.__cause__, OSError)
+
+    def test_unwritable(self):
+        store = small()
+        self.not_saved(store, self.folder / "none" / "x")
+        self.not_saved(store, self.folder)
+        self.assertFalse(os.path.exists(str(self.folder) + ".new"))
+        (self.folder / "x.new").mkdir()
+        self.not_saved(store, self.folder / "x")
+        self.assertEqual(self.names(), ["x.new"])
+
+    def test_a_save_that_fails_on_the_way(self):
+        store = small()
+        store.save(self.path)
+        before = self.path.read_bytes()
+        store.put(0, 1, 5)
+
+        def fails(*_):
+            raise OSError(28, "No space left on device")
+
+        for name in ("fsync", "replace"):
+            kept = getattr(os, name)
+            setattr(os, name, fails)
+            try:
+                self.not_saved(store, self.path)
+            finally:
+                setattr(os, name, kept)
+            self.assertEqual(self.names(), ["one.store"])
+            self.assertEqual(self.path.read_bytes(), before)
+        (self.folder / "one.store.new").write_bytes(b"left")
+        store.save(self.path)
+        self.assertEqual(self.names(), ["one.store"])
+        self.assertEqual(Store.from_file(self.path).get(0, 1), 5)
+
+    def test_unreadable(self):
+        for path in (self.folder / "none", self.folder):
+            with self.assertRaises(NotLoaded) as caught:
+                Store.from_file(path)
+            self.assertEqual((caught.exception.number, caught.exception.name), (1, "unreadable"))
+            self.assertIsInstance(caught.exception.__cause__, OSError)
+
+    def one_page(self):
+        store = Store(1)
+        store.push(2)
+        store.allocate(0, 1, store.declare([1, 0]))
+        return store
+
+    def name_by_place(self, place, changed):
+        if place < 8:
+            return "no_store"
+        if place < 12:
+            return "other_version"
+        if place < HEAD:
+            state, words = struct.unpack_from("<II", changed, 12)
+            pages, odd = divmod(words, 64)
+            one = state == STATE_BYTES and not odd and 1 < pages <= 256
+            return "short" if one else "wrong_lengths"
+        return "wrong_sum"
+
+    def test_every_byte(self):
+        store = self.one_page()
+        image = store.image()
+        data = store._saved()
+        for place in range(len(data)):
+            for change in (0xFF, 1):
+                changed = bytearray(data)
+                changed[place] ^= change
+                self.not_loaded(changed, self.name_by_place(place, changed))
+        self.assertEqual(self.path.read_bytes(), bytes(changed))
+        self.assertEqual(store.image(), image)
+
+    def test_every_length(self):
+        data = self.one_page()._saved()
+        self.assertEqual(len(data), 3932)
+        for length in range(len(data)):
+            self.not_loaded(data[:length], "short")
+        self.not_loaded(data + b"\0", "long")
+        self.not_loaded(data + bytes(256), "long")
+        self.not_loaded(data + bytes(200000), "long")
+
+    def test_lengths(self):
+        data = self.one_page()._saved()
+        for state, words in ((STATE_BYTES, 0), (STATE_BYTES, 63), (STATE_BYTES, 257 * 64),
+                             (STATE_BYTES, LAST), (STATE_BYTES - 4, 65), (LAST, 64), (0, 64)):
+            self.not_loaded(data[:12] + struct.pack("<II", state, words) + data[HEAD:], "wrong_lengths")
+        two = struct.pack("<II", STATE_BYTES, 128)
+        self.not_loaded(data[:12] + two + data[HEAD:], "short")
+        self.not_loaded(mended(data[:12] + two + data[HEAD:-4] + bytes(260)), "unsound")
+
+    def test_the_order(self):
+        data = bytearray(self.one_page()._saved())
+        data[-1] ^= 1
+        data[place_of("shares")] ^= 1
+        self.not_loaded(data, "wrong_sum")
+        self.not_loaded(data + b"x", "long")
+        data[12] ^= 1
+        self.not_loaded(data + b"x", "wrong_lengths")
+        data[8] ^= 1
+        self.not_loaded(data + b"x", "other_version")
+        data[0] ^= 1
+        self.not_loaded(data + b"x", "no_store")
+        self.not_loaded(data[:24], "no_store")
+        self.not_loaded(data[:23], "short")
+
+    def test_the_sum_and_the_audit(self):
+        store = self.one_page()
+        store.put(0, 1, 9)
+        data = bytearray(store._saved())
+        data[place_of("shares")] ^= 1
+        self.not_loaded(mended(data), "unsound")
+        data = bytearray(store._saved())
+        word = HEAD + STATE_BYTES + 4 * 2
+        self.assertEqual(data[word], 9)
+        data[word] = 10
+        self.path.write_bytes(mended(data))
+        self.assertEqual(Store.from_file(self.path).get(0, 1), 10)
+
+
+class Players(unittest.TestCase):
+    """The player finds what is wrong."""
+
+    def play(self, *lines):
+        player = play.Player(0)
+        with contextlib.redirect_stdout(io.StringIO()) as out:
+            player.play(lines)
+            player.end(None)
+        return out.getvalue()
+
+    def test_lines(self):
+        out = self.play("pages 0", " # a comment", "pages 1 # one", "\tpush 2", "as 3 6", "as 4 drop", "21")
+        lines = ["1 1 0 0 0 0", "2 0 0 0 0 0", "3 0 1 0 0 0", "4 0 0 0 0 0", "5 23 0 0 0 0", "6 0 1 1 0 0"]
+        self.assertEqual(out.splitlines(), lines)
+
+    def test_wrong_lines(self):
+        for line in ("pages 1", "pages", "1", "make", "0", str(max(CALLS) + 1), "tidy", "push", "push 1 2",
+                     "push -1", "push x", f"push {LAST + 1}", "as 1", "as 1 push 1", "as x drop", "drop 0"):
+            with self.assertRaises(play.Wrong, msg=line):
+                self.play("pages 1", line)
+        for script in ((), ("push 1",), ("pages 0",), ("pages 0", "totals"), ("pages 258",)):
+            with self.assertRaises(play.Wrong, msg=script):
+                self.play(*script)
+
+    def test_stores_that_differ(self):
+        for line in ("push 1", "totals"):
+            player = play.Player(0)
+            player.play(["pages 1"])
+            player.numbered.call(5, 2)
+            with self.assertRaises(play.Wrong):
+                player.play([line])
+        player = play.Player(0)
+        player.play(["pages 1", "push 1"])
+        player.numbered.call(2, list=[0])
+        with self.assertRaises(play.Wrong):
+            player.end(None)
+
+
+class Imports(unittest.TestCase):
+    """The library is found, or ImportError says what is wrong."""
+
+    def setUp(self):
+        folder = tempfile.TemporaryDirectory()
+        self.addCleanup(folder.cleanup)
+        self.folder = pathlib.Path(folder.name)
+        self.library = region_store._library._name
+
+    def imported(self, code="import region_store", library=None, module=HERE):
+        environment = dict(os.environ, PYTHONPATH=str(module), PYTHONDONTWRITEBYTECODE="1")
+        environment.pop("REGION_STORE_LIBRARY", None)
+        if library is not None:
+            environment["REGION_STORE_LIBRARY"] = str(library)
+        done = subprocess.run([sys.executable, "-c", code], env=environment, cwd=self.folder,
+                              stdout=subprocess.PIPE, stderr=subprocess.PIPE, universal_newlines=True)
+        return done.returncode, done.stdout + done.stderr
+
+    def fails(self, *words, **given):
+        code, text = self.imported(**given)
+        self.assertEqual(code, 1)
+        self.assertIn("ImportError: region_store: ", text)
+        for word in words:
+            self.assertIn(str(word), text)
+
+    def changed_module(self, old, new):
+        text = (HERE / "region_store.py").read_text(encoding="utf-8")
+        self.assertIn(old, text)
+        (self.folder / "region_store.py").write_text(text.replace(old, new), encoding="utf-8")
+
+    def test_where_it_looks(self):
+        self.changed_module("", "")
+        self.fails(self.folder / "libregion_store.so", "target/hosts/libregion_store.so",
+                   module=self.folder)
+        shutil.copy(self.library, self.folder / "libregion_store.so")
+        code = "import region_store; print(region_store._library._name)"
+        beside = str(self.folder / "libregion_store.so")
+        self.assertEqual(self.imported(code, module=self.folder), (0, beside + "\n"))
+        self.assertEqual(self.imported(code, self.library), (0, self.library + "\n"))
+        self.assertEqual(self.imported(code, "libregion_store.so"), (0, beside + "\n"))
+
+    def test_what_is_not_the_library(self):
+        self.fails(self.folder / "none", library=self.folder / "none")
+        (self.folder / "text").write_text("text")
+        self.fails(self.folder / "text", "is not the library", library=self.folder / "text")
+        self.fails("is not the library", "region_store_make", library=self.another_library())
+
+    def another_library(self):
+        with open("/proc/self/maps", encoding="utf-8") as maps:
+            paths = {line.split()[-1] for line in maps if "/libc.so" in line or "/libc-" in line}
+        if not paths:
+            self.skipTest("no other library is at hand")
+        return paths.pop()
+
+    def test_other_layouts(self):
+        for old, new in (("\nVERSION = 1\n", "\nVERSION = 2\n"),
+                         ('("marks", 1, 256)', '("marks", 1, 255)'),
+                         ('    ("taken", 1, 256),\n', "")):
+            self.changed_module(old, new)
+            self.fails("another layout", library=self.library, module=self.folder)
+
+    def test_byte_order(self):
+        self.fails("little-endian", code="import sys; sys.byteorder = 'big'; import region_store")
+
+
+if __name__ == "__main__":
+    unittest.main()

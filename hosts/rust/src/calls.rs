@@ -1,0 +1,660 @@
+//! A method for each call.
+
+use crate::refusal::accepted;
+use crate::store::Store;
+use crate::tables::{Ask, Refusal};
+
+// hosts/tables: begin calls
+/// What [`Store::about`] gives: the values of call 19, in their order.
+///
+/// Gives the region and the kind of the object that a slot leads to, 0 and 0 for null.
+#[derive(Clone, Copy, Debug, PartialEq, Eq)]
+pub struct About {
+    /// The first value.
+    pub region: u32,
+    /// The second value.
+    pub kind: u32,
+}
+
+/// What [`Store::report`] gives: the values of call 20, in their order.
+///
+/// Gives a region's stored count, its outside pointers, its pages, and the live subregions directly below it.
+#[derive(Clone, Copy, Debug, PartialEq, Eq)]
+pub struct Report {
+    /// The first value.
+    pub count: u32,
+    /// The second value.
+    pub outside: u32,
+    /// The third value.
+    pub pages: u32,
+    /// The fourth value.
+    pub subregions: u32,
+}
+
+/// What [`Store::totals`] gives: the values of call 21, in their order.
+///
+/// Gives how many pages are free, regions live, frames stand and frames are counted.
+#[derive(Clone, Copy, Debug, PartialEq, Eq)]
+pub struct Totals {
+    /// The first value.
+    pub free_pages: u32,
+    /// The second value.
+    pub regions: u32,
+    /// The third value.
+    pub frames: u32,
+    /// The fourth value.
+    pub counted: u32,
+}
+
+/// What [`Store::locate`] gives: the values of call 25, in their order.
+///
+/// Gives the page of the object that a slot leads to and the word of its header there, 256 and 0 for null.
+#[derive(Clone, Copy, Debug, PartialEq, Eq)]
+pub struct Locate {
+    /// The first value.
+    pub page: u32,
+    /// The second value.
+    pub word: u32,
+}
+
+/// The calls.
+impl Store {
+    /// Declares a kind of object by a mark for each word: 0 data, 1 free pointer, 2 same region, 3 up, 4 forever.
+    ///
+    /// Call 2; its value is `kind`.
+    ///
+    /// # Errors
+    ///
+    /// The first of these whose reason holds:
+    /// - 21 [`Refusal::WrongHeap`], the heap's length is not the one made, or none was made, since make refused
+    /// - 11 [`Refusal::WrongMarks`], no mark, more than 16 marks, or one above 4
+    /// - 10 [`Refusal::KindsFull`], 16 kinds stand, the most there can be
+    ///
+    /// # Examples
+    ///
+    /// ```
+    /// use region_store::{Refusal, Store};
+    /// # fn main() -> Result<(), Refusal> {
+    /// let mut store = Store::new(1)?;
+    /// let clue = store.declare(&[1, 0])?; // a free pointer and a number
+    /// assert_eq!(clue, 1);
+    /// assert_eq!(store.declare(&[5]), Err(Refusal::WrongMarks));
+    /// # Ok(())
+    /// # }
+    /// ```
+    pub fn declare(&mut self, marks: &[u32]) -> Result<u32, Refusal> {
+        let v = accepted(self.act(2, [0; 4], marks))?;
+        Ok(v[1])
+    }
+
+    /// Makes a region that lies in no other, and gives its name.
+    ///
+    /// Call 3; its value is `region`.
+    ///
+    /// # Errors
+    ///
+    /// The first of these whose reason holds:
+    /// - 21 [`Refusal::WrongHeap`], the heap's length is not the one made, or none was made, since make refused
+    /// - 4 [`Refusal::RegionsFull`], 64 regions live, the most there can be
+    /// - 5 [`Refusal::NamesOut`], name 1,000,000 was given, the last there is
+    ///
+    /// # Examples
+    ///
+    /// ```
+    /// use region_store::{Refusal, Store};
+    /// # fn main() -> Result<(), Refusal> {
+    /// let mut store = Store::new(1)?;
+    /// assert_eq!(store.new_region()?, 2);
+    /// assert_eq!(store.new_region()?, 3);
+    /// # Ok(())
+    /// # }
+    /// ```
+    pub fn new_region(&mut self) -> Result<u32, Refusal> {
+        let v = accepted(self.act(3, [0; 4], &[]))?;
+        Ok(v[1])
+    }
+
+    /// Makes a region inside a region, and gives its name.
+    ///
+    /// Call 4; its value is `region`.
+    ///
+    /// # Errors
+    ///
+    /// The first of these whose reason holds:
+    /// - 21 [`Refusal::WrongHeap`], the heap's length is not the one made, or none was made, since make refused
+    /// - 2 [`Refusal::NoRegion`], no live region has that name
+    /// - 20 [`Refusal::TooDeep`], the region above is at level 16, the deepest
+    /// - 4 [`Refusal::RegionsFull`], 64 regions live, the most there can be
+    /// - 5 [`Refusal::NamesOut`], name 1,000,000 was given, the last there is
+    ///
+    /// # Examples
+    ///
+    /// ```
+    /// use region_store::{Refusal, Store};
+    /// # fn main() -> Result<(), Refusal> {
+    /// let mut store = Store::new(1)?;
+    /// let round = store.new_region()?;
+    /// let grid = store.subregion(round)?;
+    /// assert_eq!(store.report(round)?.subregions, 1);
+    /// assert_eq!(store.delete(round, 0), Err(Refusal::SubregionLives));
+    /// store.delete(grid, 0)?;
+    /// store.delete(round, 0)?;
+    /// # Ok(())
+    /// # }
+    /// ```
+    pub fn subregion(&mut self, region: u32) -> Result<u32, Refusal> {
+        let v = accepted(self.act(4, [region, 0, 0, 0], &[]))?;
+        Ok(v[1])
+    }
+
+    /// Puts a frame of 1 to 8 null slots on the stack, and gives how many frames stand.
+    ///
+    /// Call 5; its value is `frames`.
+    ///
+    /// # Errors
+    ///
+    /// The first of these whose reason holds:
+    /// - 21 [`Refusal::WrongHeap`], the heap's length is not the one made, or none was made, since make refused
+    /// - 8 [`Refusal::SlotCount`], a frame has 1 to 8 slots
+    /// - 7 [`Refusal::FramesFull`], 32 frames stand, the most there can be
+    ///
+    /// # Examples
+    ///
+    /// ```
+    /// use region_store::{Refusal, Store};
+    /// # fn main() -> Result<(), Refusal> {
+    /// let mut store = Store::new(1)?;
+    /// assert_eq!(store.push(3)?, 1);
+    /// assert_eq!(store.push(9), Err(Refusal::SlotCount));
+    /// # Ok(())
+    /// # }
+    /// ```
+    pub fn push(&mut self, slots: u32) -> Result<u32, Refusal> {
+        let v = accepted(self.act(5, [slots, 0, 0, 0], &[]))?;
+        Ok(v[1])
+    }
+
+    /// Takes the top frame off the stack, and gives how many frames stand.
+    ///
+    /// Call 6; its value is `frames`.
+    ///
+    /// # Errors
+    ///
+    /// The first of these whose reason holds:
+    /// - 21 [`Refusal::WrongHeap`], the heap's length is not the one made, or none was made, since make refused
+    /// - 23 [`Refusal::NoFiller`], the filler is above 3
+    /// - 6 [`Refusal::NoFrame`], no frame, or fewer than the two that the call needs
+    pub fn drop(&mut self, filler: u32) -> Result<u32, Refusal> {
+        let v = accepted(self.act(6, [filler, 0, 0, 0], &[]))?;
+        Ok(v[1])
+    }
+
+    /// Takes the top frame off the stack, and puts what one of its slots held into a slot of the frame beneath it.
+    ///
+    /// Call 7; its value is `frames`.
+    ///
+    /// # Errors
+    ///
+    /// The first of these whose reason holds:
+    /// - 21 [`Refusal::WrongHeap`], the heap's length is not the one made, or none was made, since make refused
+    /// - 23 [`Refusal::NoFiller`], the filler is above 3
+    /// - 6 [`Refusal::NoFrame`], no frame, or fewer than the two that the call needs
+    /// - 9 [`Refusal::NoSlot`], a slot named is not there
+    pub fn hand_back(&mut self, slot: u32, beneath: u32, filler: u32) -> Result<u32, Refusal> {
+        let v = accepted(self.act(7, [slot, beneath, filler, 0], &[]))?;
+        Ok(v[1])
+    }
+
+    /// Makes an object of a kind in a region, its words 0 or null, and leads a slot to it.
+    ///
+    /// Call 8; it has no value.
+    ///
+    /// # Errors
+    ///
+    /// The first of these whose reason holds:
+    /// - 21 [`Refusal::WrongHeap`], the heap's length is not the one made, or none was made, since make refused
+    /// - 6 [`Refusal::NoFrame`], no frame, or fewer than the two that the call needs
+    /// - 9 [`Refusal::NoSlot`], a slot named is not there
+    /// - 2 [`Refusal::NoRegion`], no live region has that name
+    /// - 12 [`Refusal::NoKind`], no such kind
+    /// - 13 [`Refusal::NoPage`], the region has no page, or the object does not fit its newest one, and no page is free
+    ///
+    /// # Examples
+    ///
+    /// ```
+    /// use region_store::{Refusal, Store};
+    /// # fn main() -> Result<(), Refusal> {
+    /// let mut store = Store::new(1)?;
+    /// let kind = store.declare(&[0])?;
+    /// store.push(1)?;
+    /// store.allocate(0, 1, kind)?;
+    /// assert_eq!(store.get(0, 0)?, 0);
+    /// # Ok(())
+    /// # }
+    /// ```
+    pub fn allocate(&mut self, slot: u32, region: u32, kind: u32) -> Result<(), Refusal> {
+        accepted(self.act(8, [slot, region, kind, 0], &[]))?;
+        Ok(())
+    }
+
+    /// Leads a slot to the first object of a region, or makes it null where there is none.
+    ///
+    /// Call 9; it has no value.
+    ///
+    /// # Errors
+    ///
+    /// The first of these whose reason holds:
+    /// - 21 [`Refusal::WrongHeap`], the heap's length is not the one made, or none was made, since make refused
+    /// - 6 [`Refusal::NoFrame`], no frame, or fewer than the two that the call needs
+    /// - 9 [`Refusal::NoSlot`], a slot named is not there
+    /// - 2 [`Refusal::NoRegion`], no live region has that name
+    pub fn first(&mut self, slot: u32, region: u32) -> Result<(), Refusal> {
+        accepted(self.act(9, [slot, region, 0, 0], &[]))?;
+        Ok(())
+    }
+
+    /// Leads a slot to where another one leads.
+    ///
+    /// Call 10; it has no value.
+    ///
+    /// # Errors
+    ///
+    /// The first of these whose reason holds:
+    /// - 21 [`Refusal::WrongHeap`], the heap's length is not the one made, or none was made, since make refused
+    /// - 6 [`Refusal::NoFrame`], no frame, or fewer than the two that the call needs
+    /// - 9 [`Refusal::NoSlot`], a slot named is not there
+    pub fn copy(&mut self, from: u32, to: u32) -> Result<(), Refusal> {
+        accepted(self.act(10, [from, to, 0, 0], &[]))?;
+        Ok(())
+    }
+
+    /// Leads a slot to where a slot of the frame beneath leads.
+    ///
+    /// Call 11; it has no value.
+    ///
+    /// # Errors
+    ///
+    /// The first of these whose reason holds:
+    /// - 21 [`Refusal::WrongHeap`], the heap's length is not the one made, or none was made, since make refused
+    /// - 6 [`Refusal::NoFrame`], no frame, or fewer than the two that the call needs
+    /// - 9 [`Refusal::NoSlot`], a slot named is not there
+    pub fn fetch(&mut self, beneath: u32, slot: u32) -> Result<(), Refusal> {
+        accepted(self.act(11, [beneath, slot, 0, 0], &[]))?;
+        Ok(())
+    }
+
+    /// Makes a slot null.
+    ///
+    /// Call 12; it has no value.
+    ///
+    /// # Errors
+    ///
+    /// The first of these whose reason holds:
+    /// - 21 [`Refusal::WrongHeap`], the heap's length is not the one made, or none was made, since make refused
+    /// - 6 [`Refusal::NoFrame`], no frame, or fewer than the two that the call needs
+    /// - 9 [`Refusal::NoSlot`], a slot named is not there
+    pub fn clear(&mut self, slot: u32) -> Result<(), Refusal> {
+        accepted(self.act(12, [slot, 0, 0, 0], &[]))?;
+        Ok(())
+    }
+
+    /// Leads a slot to where a pointer word of an object leads.
+    ///
+    /// Call 13; it has no value.
+    ///
+    /// # Errors
+    ///
+    /// The first of these whose reason holds:
+    /// - 21 [`Refusal::WrongHeap`], the heap's length is not the one made, or none was made, since make refused
+    /// - 6 [`Refusal::NoFrame`], no frame, or fewer than the two that the call needs
+    /// - 9 [`Refusal::NoSlot`], a slot named is not there
+    /// - 14 [`Refusal::NullObject`], the object slot is null
+    /// - 15 [`Refusal::NoWord`], the object has no such word
+    /// - 16 [`Refusal::WrongWord`], the word is data where a pointer is wanted, or the other way round; for view, some word is no data
+    pub fn load(&mut self, slot: u32, word: u32, to: u32) -> Result<(), Refusal> {
+        accepted(self.act(13, [slot, word, to, 0], &[]))?;
+        Ok(())
+    }
+
+    /// Leads a pointer word of an object to where a slot leads, if the word's mark allows it.
+    ///
+    /// Call 14; it has no value.
+    ///
+    /// # Errors
+    ///
+    /// The first of these whose reason holds:
+    /// - 21 [`Refusal::WrongHeap`], the heap's length is not the one made, or none was made, since make refused
+    /// - 23 [`Refusal::NoFiller`], the filler is above 3
+    /// - 6 [`Refusal::NoFrame`], no frame, or fewer than the two that the call needs
+    /// - 9 [`Refusal::NoSlot`], a slot named is not there
+    /// - 14 [`Refusal::NullObject`], the object slot is null
+    /// - 15 [`Refusal::NoWord`], the object has no such word
+    /// - 16 [`Refusal::WrongWord`], the word is data where a pointer is wanted, or the other way round; for view, some word is no data
+    /// - 17 [`Refusal::BreaksMark`], the pointer breaks the word's mark
+    ///
+    /// # Examples
+    ///
+    /// ```
+    /// use region_store::{Refusal, Store};
+    /// # fn main() -> Result<(), Refusal> {
+    /// let mut store = Store::new(2)?;
+    /// let clue = store.declare(&[1, 0])?;
+    /// let round = store.new_region()?;
+    /// store.push(2)?;
+    /// store.allocate(0, 1, clue)?;
+    /// store.allocate(1, round, clue)?;
+    /// store.set_pointer(0, 0, 1, 0)?; // word 0 of the first leads to the second
+    /// assert_eq!(store.report(round)?.count, 1);
+    /// # Ok(())
+    /// # }
+    /// ```
+    pub fn set_pointer(
+        &mut self,
+        slot: u32,
+        word: u32,
+        value: u32,
+        filler: u32,
+    ) -> Result<(), Refusal> {
+        accepted(self.act(14, [slot, word, value, filler], &[]))?;
+        Ok(())
+    }
+
+    /// Writes a data word of an object.
+    ///
+    /// Call 15; it has no value.
+    ///
+    /// # Errors
+    ///
+    /// The first of these whose reason holds:
+    /// - 21 [`Refusal::WrongHeap`], the heap's length is not the one made, or none was made, since make refused
+    /// - 6 [`Refusal::NoFrame`], no frame, or fewer than the two that the call needs
+    /// - 9 [`Refusal::NoSlot`], a slot named is not there
+    /// - 14 [`Refusal::NullObject`], the object slot is null
+    /// - 15 [`Refusal::NoWord`], the object has no such word
+    /// - 16 [`Refusal::WrongWord`], the word is data where a pointer is wanted, or the other way round; for view, some word is no data
+    ///
+    /// # Examples
+    ///
+    /// ```
+    /// use region_store::{Refusal, Store};
+    /// # fn main() -> Result<(), Refusal> {
+    /// let mut store = Store::new(1)?;
+    /// let clue = store.declare(&[1, 0])?;
+    /// store.push(1)?;
+    /// store.allocate(0, 1, clue)?;
+    /// store.put(0, 1, 17)?;
+    /// assert_eq!(store.get(0, 1)?, 17);
+    /// assert_eq!(store.put(0, 0, 17), Err(Refusal::WrongWord)); // word 0 is a pointer
+    /// # Ok(())
+    /// # }
+    /// ```
+    pub fn put(&mut self, slot: u32, word: u32, number: u32) -> Result<(), Refusal> {
+        accepted(self.act(15, [slot, word, number, 0], &[]))?;
+        Ok(())
+    }
+
+    /// Reads a data word of an object.
+    ///
+    /// Call 16; its value is `number`.
+    ///
+    /// # Errors
+    ///
+    /// The first of these whose reason holds:
+    /// - 21 [`Refusal::WrongHeap`], the heap's length is not the one made, or none was made, since make refused
+    /// - 6 [`Refusal::NoFrame`], no frame, or fewer than the two that the call needs
+    /// - 9 [`Refusal::NoSlot`], a slot named is not there
+    /// - 14 [`Refusal::NullObject`], the object slot is null
+    /// - 15 [`Refusal::NoWord`], the object has no such word
+    /// - 16 [`Refusal::WrongWord`], the word is data where a pointer is wanted, or the other way round; for view, some word is no data
+    pub fn get(&self, slot: u32, word: u32) -> Result<u32, Refusal> {
+        let v = accepted(self.ask(Ask::Get, [slot, word, 0, 0], &[]))?;
+        Ok(v[1])
+    }
+
+    /// Gives the words of an object without pointers: the part of the heap itself, no copy.
+    ///
+    /// Call 17; its value is `part`.
+    ///
+    /// # Errors
+    ///
+    /// The first of these whose reason holds:
+    /// - 21 [`Refusal::WrongHeap`], the heap's length is not the one made, or none was made, since make refused
+    /// - 6 [`Refusal::NoFrame`], no frame, or fewer than the two that the call needs
+    /// - 9 [`Refusal::NoSlot`], a slot named is not there
+    /// - 14 [`Refusal::NullObject`], the object slot is null
+    /// - 16 [`Refusal::WrongWord`], the word is data where a pointer is wanted, or the other way round; for view, some word is no data
+    ///
+    /// # Examples
+    ///
+    /// ```
+    /// use region_store::{Refusal, Store};
+    /// # fn main() -> Result<(), Refusal> {
+    /// let mut store = Store::new(1)?;
+    /// let pair = store.declare(&[0, 0])?;
+    /// store.push(1)?;
+    /// store.allocate(0, 1, pair)?;
+    /// store.put(0, 1, 17)?;
+    /// let part = store.view(0)?;
+    /// assert_eq!(store.get(0, 1)?, 17); // asks, while the part is held
+    /// assert_eq!(part, [0, 17]);
+    /// # Ok(())
+    /// # }
+    /// ```
+    ///
+    /// While the part is held, calls that act cannot be made; this does not compile:
+    ///
+    /// ```compile_fail,E0502
+    /// use region_store::{Refusal, Store};
+    /// # fn main() -> Result<(), Refusal> {
+    /// # let mut store = Store::new(1)?;
+    /// # let pair = store.declare(&[0, 0])?;
+    /// # store.push(1)?;
+    /// # store.allocate(0, 1, pair)?;
+    /// let part = store.view(0)?;
+    /// store.put(0, 1, 17)?;
+    /// assert_eq!(part, [0, 17]);
+    /// # Ok(())
+    /// # }
+    /// ```
+    pub fn view(&self, slot: u32) -> Result<&[u32], Refusal> {
+        self.part(slot)
+    }
+
+    /// Tells whether two slots lead to one object, or are both null.
+    ///
+    /// Call 18; its value is `same`.
+    ///
+    /// # Errors
+    ///
+    /// The first of these whose reason holds:
+    /// - 21 [`Refusal::WrongHeap`], the heap's length is not the one made, or none was made, since make refused
+    /// - 6 [`Refusal::NoFrame`], no frame, or fewer than the two that the call needs
+    /// - 9 [`Refusal::NoSlot`], a slot named is not there
+    pub fn same(&self, slot: u32, other: u32) -> Result<bool, Refusal> {
+        let v = accepted(self.ask(Ask::Same, [slot, other, 0, 0], &[]))?;
+        Ok(v[1] == 1)
+    }
+
+    /// Gives the region and the kind of the object that a slot leads to, 0 and 0 for null.
+    ///
+    /// Call 19; its values are those of [`About`].
+    ///
+    /// # Errors
+    ///
+    /// The first of these whose reason holds:
+    /// - 21 [`Refusal::WrongHeap`], the heap's length is not the one made, or none was made, since make refused
+    /// - 6 [`Refusal::NoFrame`], no frame, or fewer than the two that the call needs
+    /// - 9 [`Refusal::NoSlot`], a slot named is not there
+    pub fn about(&self, slot: u32) -> Result<About, Refusal> {
+        let v = accepted(self.ask(Ask::About, [slot, 0, 0, 0], &[]))?;
+        Ok(About {
+            region: v[1],
+            kind: v[2],
+        })
+    }
+
+    /// Gives a region's stored count, its outside pointers, its pages, and the live subregions directly below it.
+    ///
+    /// Call 20; its values are those of [`Report`].
+    ///
+    /// # Errors
+    ///
+    /// The first of these whose reason holds:
+    /// - 21 [`Refusal::WrongHeap`], the heap's length is not the one made, or none was made, since make refused
+    /// - 2 [`Refusal::NoRegion`], no live region has that name
+    ///
+    /// # Examples
+    ///
+    /// ```
+    /// use region_store::{Refusal, Store};
+    /// # fn main() -> Result<(), Refusal> {
+    /// let mut store = Store::new(1)?;
+    /// let round = store.new_region()?;
+    /// let report = store.report(round)?;
+    /// assert_eq!((report.count, report.outside, report.pages, report.subregions), (0, 0, 0, 0));
+    /// # Ok(())
+    /// # }
+    /// ```
+    pub fn report(&self, region: u32) -> Result<Report, Refusal> {
+        let v = accepted(self.ask(Ask::Report, [region, 0, 0, 0], &[]))?;
+        Ok(Report {
+            count: v[1],
+            outside: v[2],
+            pages: v[3],
+            subregions: v[4],
+        })
+    }
+
+    /// Gives how many pages are free, regions live, frames stand and frames are counted.
+    ///
+    /// Call 21; its values are those of [`Totals`], and it is never refused.
+    ///
+    /// # Examples
+    ///
+    /// ```
+    /// use region_store::{Refusal, Store};
+    /// # fn main() -> Result<(), Refusal> {
+    /// let store = Store::new(4)?;
+    /// assert_eq!(store.totals().free_pages, 4);
+    /// assert_eq!(store.totals().regions, 1);
+    /// # Ok(())
+    /// # }
+    /// ```
+    #[must_use]
+    pub fn totals(&self) -> Totals {
+        let v = self.ask(Ask::Totals, [0; 4], &[]);
+        Totals {
+            free_pages: v[1],
+            regions: v[2],
+            frames: v[3],
+            counted: v[4],
+        }
+    }
+
+    /// Tells whether the memory is a sound store, by counting everything anew.
+    ///
+    /// Call 22; its value is `sound`, and it is never refused.
+    ///
+    /// # Examples
+    ///
+    /// ```
+    /// use region_store::{Refusal, Store};
+    /// # fn main() -> Result<(), Refusal> {
+    /// let store = Store::new(4)?;
+    /// assert!(store.audit());
+    /// # Ok(())
+    /// # }
+    /// ```
+    #[must_use]
+    pub fn audit(&self) -> bool {
+        let v = self.ask(Ask::Audit, [0; 4], &[]);
+        v[1] == 1
+    }
+
+    /// Deletes a region, and gives how many pages that frees.
+    ///
+    /// Call 23; its value is `pages`.
+    ///
+    /// # Errors
+    ///
+    /// The first of these whose reason holds:
+    /// - 21 [`Refusal::WrongHeap`], the heap's length is not the one made, or none was made, since make refused
+    /// - 23 [`Refusal::NoFiller`], the filler is above 3
+    /// - 2 [`Refusal::NoRegion`], no live region has that name
+    /// - 3 [`Refusal::Permanent`], region 1 is permanent
+    /// - 18 [`Refusal::SubregionLives`], a subregion lives; for delete_all, one that is not named with the others
+    /// - 19 [`Refusal::OutsidePointer`], an outside pointer remains; for delete_all, a slot that leads into a region named, or a free word of a region that is not
+    ///
+    /// # Examples
+    ///
+    /// ```
+    /// use region_store::{Refusal, Store};
+    /// # fn main() -> Result<(), Refusal> {
+    /// let mut store = Store::new(1)?;
+    /// let kind = store.declare(&[0])?;
+    /// let round = store.new_region()?;
+    /// store.push(1)?;
+    /// store.allocate(0, round, kind)?;
+    /// assert_eq!(store.delete(round, 0), Err(Refusal::OutsidePointer)); // slot 0 leads there
+    /// store.clear(0)?;
+    /// assert_eq!(store.delete(round, 0)?, 1); // one page is free again
+    /// # Ok(())
+    /// # }
+    /// ```
+    pub fn delete(&mut self, region: u32, filler: u32) -> Result<u32, Refusal> {
+        let v = accepted(self.act(23, [region, filler, 0, 0], &[]))?;
+        Ok(v[1])
+    }
+
+    /// Deletes 1 to 16 regions that may lead into each other, all or none, and gives how many pages that frees.
+    ///
+    /// Call 24; its value is `pages`.
+    ///
+    /// # Errors
+    ///
+    /// The first of these whose reason holds:
+    /// - 21 [`Refusal::WrongHeap`], the heap's length is not the one made, or none was made, since make refused
+    /// - 23 [`Refusal::NoFiller`], the filler is above 3
+    /// - 22 [`Refusal::WrongNames`], no name, more than 16 names, or one twice
+    /// - 2 [`Refusal::NoRegion`], no live region has that name
+    /// - 3 [`Refusal::Permanent`], region 1 is permanent
+    /// - 18 [`Refusal::SubregionLives`], a subregion lives; for delete_all, one that is not named with the others
+    /// - 19 [`Refusal::OutsidePointer`], an outside pointer remains; for delete_all, a slot that leads into a region named, or a free word of a region that is not
+    ///
+    /// # Examples
+    ///
+    /// ```
+    /// use region_store::{Refusal, Store};
+    /// # fn main() -> Result<(), Refusal> {
+    /// let mut store = Store::new(1)?;
+    /// let round = store.new_region()?;
+    /// let grid = store.subregion(round)?;
+    /// store.delete_all(&[round, grid], 0)?;
+    /// assert_eq!(store.totals().regions, 1);
+    /// # Ok(())
+    /// # }
+    /// ```
+    pub fn delete_all(&mut self, regions: &[u32], filler: u32) -> Result<u32, Refusal> {
+        let v = accepted(self.act(24, [filler, 0, 0, 0], regions))?;
+        Ok(v[1])
+    }
+
+    /// Gives the page of the object that a slot leads to and the word of its header there, 256 and 0 for null.
+    ///
+    /// Call 25; its values are those of [`Locate`].
+    ///
+    /// # Errors
+    ///
+    /// The first of these whose reason holds:
+    /// - 21 [`Refusal::WrongHeap`], the heap's length is not the one made, or none was made, since make refused
+    /// - 6 [`Refusal::NoFrame`], no frame, or fewer than the two that the call needs
+    /// - 9 [`Refusal::NoSlot`], a slot named is not there
+    pub fn locate(&self, slot: u32) -> Result<Locate, Refusal> {
+        let v = accepted(self.ask(Ask::Locate, [slot, 0, 0, 0], &[]))?;
+        Ok(Locate {
+            page: v[1],
+            word: v[2],
+        })
+    }
+}
+// hosts/tables: end

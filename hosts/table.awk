@@ -1,0 +1,73 @@
+# Reads store.txt into arrays, for the awk programs that write a host's tables.
+#   version, magic
+#   numbers: number_name[i], number_what[i], i from 1
+#   arrays: array_name[i], array_width[i], array_length[i], array_what[i]
+#   calls: call_number[i], call_name[i], call_asks[i] (1 or 0), call_arguments[i], call_values[i], call_refusals[i], call_what[i]
+#   refusals: refusal_name[n], reason[n], by number
+#   files: file_name[n], file_message[n], by number
+# An END rule of the program after this one writes the block named by -v block=NAME.
+
+BEGIN { FS = " *[|] *"; numbers = arrays = calls = refusals = files = 0 }
+
+function bad(why) {
+    printf "store.txt, line %d: %s\n", NR, why > "/dev/stderr"
+    failed = 1
+    exit 1
+}
+
+/^#/ || /^$/ { next }
+$1 == "version" && NF == 2 { version = $2; next }
+$1 == "magic" && NF == 2 { magic = $2; next }
+$1 == "number" && NF == 3 { numbers++; number_name[numbers] = $2; number_what[numbers] = $3; next }
+$1 == "array" && NF == 5 {
+    arrays++
+    array_name[arrays] = $2; array_width[arrays] = $3; array_length[arrays] = $4; array_what[arrays] = $5
+    next
+}
+$1 == "call" && NF == 8 {
+    calls++
+    if ($2 != calls) bad("call " calls " is expected here")
+    if ($4 != "acts" && $4 != "asks") bad("a call acts or asks")
+    call_number[calls] = $2; call_name[calls] = $3; call_asks[calls] = $4 == "asks"
+    call_arguments[calls] = $5; call_values[calls] = $6; call_refusals[calls] = $7; call_what[calls] = $8
+    next
+}
+$1 == "refusal" && NF == 4 {
+    refusals++
+    if ($2 != refusals) bad("refusal " refusals " is expected here")
+    refusal_name[refusals] = $3; reason[refusals] = $4
+    next
+}
+$1 == "file" && NF == 4 {
+    files++
+    if ($2 != files) bad("file " files " is expected here")
+    file_name[files] = $3; file_message[files] = $4
+    next
+}
+{ bad("no such line") }
+
+# ---- for the programs that write
+
+function upper(name) { return toupper(name) }
+
+# new_region: NewRegion
+function camel(name,    parts, n, i, s) {
+    n = split(name, parts, "_")
+    s = ""
+    for (i = 1; i <= n; i++) s = s toupper(substr(parts[i], 1, 1)) substr(parts[i], 2)
+    return s
+}
+
+# 'marks..': marks; 'same?': same
+function bare(word) { gsub(/[.?]/, "", word); return word }
+
+function is_list(word) { return word ~ /[.][.]$/ }
+
+function is_flag(word) { return word ~ /[?]$/ }
+
+# all bytes of a state
+function state_bytes(    i, n) {
+    n = 4 * numbers
+    for (i = 1; i <= arrays; i++) n += array_width[i] * array_length[i]
+    return n
+}
