@@ -3,14 +3,16 @@
 #   numbers: number_name[i], number_what[i], i from 1
 #   arrays: array_name[i], array_width[i], array_length[i], array_what[i]
 #   calls: call_number[i], call_name[i], call_asks[i] (1 or 0), call_arguments[i], call_values[i], call_refusals[i], call_what[i]
+#   values: value_what[call name, value name], of each call that has several
 #   refusals: refusal_name[n], reason[n], by number
 #   files: file_name[n], file_message[n], by number
 # An END rule of the program after this one writes the block named by -v block=NAME.
 
 BEGIN { FS = " *[|] *"; numbers = arrays = calls = refusals = files = 0 }
 
-function bad(why) {
-    printf "store.txt, line %d: %s\n", NR, why > "/dev/stderr"
+# The line is the one read last, where no other is given.
+function bad(why, line) {
+    printf "store.txt, line %d: %s\n", line ? line : NR, why > "/dev/stderr"
     failed = 1
     exit 1
 }
@@ -30,6 +32,14 @@ $1 == "call" && NF == 8 {
     if ($4 != "acts" && $4 != "asks") bad("a call acts or asks")
     call_number[calls] = $2; call_name[calls] = $3; call_asks[calls] = $4 == "asks"
     call_arguments[calls] = $5; call_values[calls] = $6; call_refusals[calls] = $7; call_what[calls] = $8
+    call_line[calls] = NR
+    note_values($3, $6)
+    next
+}
+$1 == "value" && NF == 4 {
+    if (!(($2, $3) in value_wanted)) bad("there is no call " $2 " with several values, " $3 " among them")
+    if (($2, $3) in value_what) bad("the value " $3 " of " $2 " has a line already")
+    value_what[$2, $3] = $4
     next
 }
 $1 == "refusal" && NF == 4 {
@@ -45,6 +55,24 @@ $1 == "file" && NF == 4 {
     next
 }
 { bad("no such line") }
+
+END {
+    if (failed) exit 1
+    for (i = 1; i <= calls; i++) test_values(i)
+}
+
+# The values of a call that has several: each wants a line.
+function note_values(call, values,    parts, n, j) {
+    n = split(values, parts, " ")
+    if (n > 1) for (j = 1; j <= n; j++) value_wanted[call, bare(parts[j])] = 1
+}
+
+function test_values(i,    parts, n, j) {
+    n = split(call_values[i], parts, " ")
+    for (j = 1; j <= n && n > 1; j++)
+        if (!((call_name[i], bare(parts[j])) in value_what))
+            bad("the value " bare(parts[j]) " of " call_name[i] " has no line", call_line[i])
+}
 
 # ---- for the programs that write
 

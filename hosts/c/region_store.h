@@ -429,7 +429,8 @@ static inline struct rs_reply rs_same(struct rs_store *s, uint32_t slot, uint32_
 }
 
 // Gives the region and the kind of the object that a slot leads to, 0 and 0 for null.
-// values[0]: region; values[1]: kind.
+// values[0]: region, the name of the object's region, 0 for null.
+// values[1]: kind, the number of its kind, 0 for null.
 // Refused by RS_WRONG_HEAP, RS_NO_FRAME, RS_NO_SLOT.
 static inline struct rs_reply rs_about(struct rs_store *s, uint32_t slot)
 {
@@ -437,7 +438,10 @@ static inline struct rs_reply rs_about(struct rs_store *s, uint32_t slot)
 }
 
 // Gives a region's stored count, its outside pointers, its pages, and the live subregions directly below it.
-// values[0]: count; values[1]: outside; values[2]: pages; values[3]: subregions.
+// values[0]: count, the stored count.
+// values[1]: outside, its outside pointers.
+// values[2]: pages, the pages that it holds.
+// values[3]: subregions, the live subregions directly below it.
 // Refused by RS_WRONG_HEAP, RS_NO_REGION.
 static inline struct rs_reply rs_report(struct rs_store *s, uint32_t region)
 {
@@ -445,7 +449,10 @@ static inline struct rs_reply rs_report(struct rs_store *s, uint32_t region)
 }
 
 // Gives how many pages are free, regions live, frames stand and frames are counted.
-// values[0]: free_pages; values[1]: regions; values[2]: frames; values[3]: counted.
+// values[0]: free_pages, the pages that are free.
+// values[1]: regions, the regions that live, region 1 among them.
+// values[2]: frames, the frames that stand.
+// values[3]: counted, the frames, from the lowest on, that are counted.
 // Never refused.
 static inline struct rs_reply rs_totals(struct rs_store *s)
 {
@@ -477,7 +484,8 @@ static inline struct rs_reply rs_delete_all(struct rs_store *s, const uint32_t *
 }
 
 // Gives the page of the object that a slot leads to and the word of its header there, 256 and 0 for null.
-// values[0]: page; values[1]: word.
+// values[0]: page, the page on which the object lies, from 0 on, 256 for null.
+// values[1]: word, the word of that page at which its header stands, from 0 on, 0 for null.
 // Refused by RS_WRONG_HEAP, RS_NO_FRAME, RS_NO_SLOT.
 static inline struct rs_reply rs_locate(struct rs_store *s, uint32_t slot)
 {

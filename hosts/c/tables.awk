@@ -93,14 +93,14 @@ function refused_by(i,    parts, n, j, s) {
     return s "."
 }
 
-# the values of call i, by name
+# the values of call i, by name, a line for each; of several, what they are
 function gives(i,    parts, n, j, s) {
     n = split(call_values[i], parts, " ")
     if (n == 0) return "No values."
     s = ""
     for (j = 1; j <= n; j++)
-        s = s (j > 1 ? "; " : "") "values[" j - 1 "]: " bare(parts[j]) (is_flag(parts[j]) ? ", 1 or 0" : "")
-    return s "."
+        s = s (j > 1 ? "\n// " : "") "values[" j - 1 "]: " bare(parts[j]) (n > 1 ? ", " value_what[call_name[i], bare(parts[j])] : "") (is_flag(parts[j]) ? ", 1 or 0" : "") "."
+    return s
 }
 
 function parameters(i,    parts, n, j, s) {

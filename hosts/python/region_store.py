@@ -223,16 +223,36 @@ MESSAGES = {
 
 # hosts/tables: begin tuples
 About = namedtuple("About", ("region", "kind"))
-About.__doc__ = "What Store.about gives."
+About.__doc__ = """What Store.about gives.
+
+region: the name of the object's region, 0 for null
+kind: the number of its kind, 0 for null
+"""
 
 Report = namedtuple("Report", ("count", "outside", "pages", "subregions"))
-Report.__doc__ = "What Store.report gives."
+Report.__doc__ = """What Store.report gives.
+
+count: the stored count
+outside: its outside pointers
+pages: the pages that it holds
+subregions: the live subregions directly below it
+"""
 
 Totals = namedtuple("Totals", ("free_pages", "regions", "frames", "counted"))
-Totals.__doc__ = "What Store.totals gives."
+Totals.__doc__ = """What Store.totals gives.
+
+free_pages: the pages that are free
+regions: the regions that live, region 1 among them
+frames: the frames that stand
+counted: the frames, from the lowest on, that are counted
+"""
 
 Locate = namedtuple("Locate", ("page", "word"))
-Locate.__doc__ = "What Store.locate gives."
+Locate.__doc__ = """What Store.locate gives.
+
+page: the page on which the object lies, from 0 on, 256 for null
+word: the word of that page at which its header stands, from 0 on, 0 for null
+"""
 # hosts/tables: end
 
 PAGE_WORDS = 64

@@ -95,7 +95,7 @@ function write_tables() {
 
 # ---- tuples
 
-function write_tuples(    i, parts, n, name, between) {
+function write_tuples(    i, parts, n, j, name, between) {
     for (i = 2; i <= calls; i++) {
         n = split(call_values[i], parts, " ")
         if (n < 2) continue
@@ -103,7 +103,9 @@ function write_tuples(    i, parts, n, name, between) {
         printf "%s", between
         between = "\n"
         print name " = namedtuple(" quoted(name) ", " strings(call_values[i]) ")"
-        print name ".__doc__ = " quoted("What Store." call_name[i] " gives.")
+        print name ".__doc__ = \"\"\"What Store." call_name[i] " gives.\n"
+        for (j = 1; j <= n; j++) fold(bare(parts[j]) ": ", "    ", value_what[call_name[i], bare(parts[j])])
+        print "\"\"\""
     }
 }
 

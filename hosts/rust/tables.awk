@@ -311,16 +311,18 @@ function given(i,    v, n) {
     return is_flag(v[1]) ? "bool" : "u32"
 }
 
-function value_struct(i,    v, n, k, order) {
+# 'the stored count': 'The stored count.'
+function sentence(text) { return toupper(substr(text, 1, 1)) substr(text, 2) "." }
+
+function value_struct(i,    v, n, k) {
     n = words(call_values[i], v)
-    split("first second third fourth", order, " ")
     print "/// What [`Store::" call_name[i] "`] gives: the values of call " call_number[i] ", in their order."
     print "///"
     print "/// " call_what[i]
     print "#[derive(Clone, Copy, Debug, PartialEq, Eq)]"
     print "pub struct " camel(call_name[i]) " {"
     for (k = 1; k <= n; k++) {
-        print "    /// The " order[k] " value."
+        print "    /// " sentence(value_what[call_name[i], bare(v[k])])
         print "    pub " bare(v[k]) ": u32,"
     }
     print "}"

@@ -18,7 +18,7 @@ use Rattle.outcomes.specs.Store.{Store, kinds, slot}
 use Rattle.outcomes.specs.Outcome.{Outcome, Answered, Accepted, refusal, viewAnswer, store}
 use Rattle.outcomes.specs.Laws.Values.{size-most}
 use Rattle.outcomes.specs.Shape.{Shaped}
-use Rattle.abi.specs.Memory.{arraysOf, sizes, LaidOut, Holds, Viewed}
+use Rattle.abi.specs.Memory.{arraysOf, sizes, OfSizes, HoldsState, Viewed}
 
 -- a list of five, element by element
 pub five : (l : List ℕ) → length l ≡ 5 → l ≡ getD l 0 0 ∷ getD l 1 0 ∷ getD l 2 0 ∷ getD l 3 0 ∷ getD l 4 0 ∷ []
@@ -33,8 +33,8 @@ five (a ∷ b ∷ c ∷ d ∷ e ∷ f ∷ l) h = absurd (omega arith)
 pub numbered : (l : List ℕ) (ls : List (List ℕ)) → length l ≡ 5 → l ∷ ls ≡ (getD l 0 0 ∷ getD l 1 0 ∷ getD l 2 0 ∷ getD l 3 0 ∷ getD l 4 0 ∷ []) ∷ ls
 numbered l ls h = ap (λ n. n ∷ ls) (five l h)
 
-pub laid-out : (s : State) → Shaped (store s []) → LaidOut sizes (arraysOf s)
-laid-out s h =
+pub of-sizes : (s : State) → Shaped (store s []) → OfSizes sizes (arraysOf s)
+of-sizes s h =
     let z = h .sized in
     let b = h .bounded in
     let f = b .inFrames in
@@ -43,9 +43,9 @@ laid-out s h =
     let p = b .inPages in
     (refl, (f .standing, (f .counted, (k .declared, (r .given, (p .made, tt))))), (z .inFrames .widths, f .widths, (z .inFrames .slots, f .slots, (z .inKinds .sizes, k .sizes, (z .inKinds .marks, k .marks, (z .inRegions .names, r .names, (z .inRegions .parents, r .parents, (z .inRegions .levels, r .levels, (z .inRegions .shares, r .shares, (z .inRegions .newest, r .newest, (z .inRegions .oldest, r .oldest, (z .inPages .owners, p .owners, (z .inPages .taken, p .taken, tt)))))))))))))
 
-pub holds : (s : State) (memory : List (List ℕ)) → memory ≡ arraysOf s → Shaped (store s []) → Holds s memory
-unfolding Holds
-holds s memory e h = (e, subst⁻¹ (λ m. LaidOut sizes m) e (laid-out s h))
+pub holds : (s : State) (memory : List (List ℕ)) → memory ≡ arraysOf s → Shaped (store s []) → HoldsState s memory
+unfolding HoldsState
+holds s memory e h = (e, subst⁻¹ (λ m. OfSizes sizes m) e (of-sizes s h))
 
 -- numbers still to be written: the one at i, and those after it
 pub write-step : (out₀ out out' l : List ℕ) (i v : ℕ) → out' ≡ set out i v → v ≡ getD l i 0 → i < length l → length out ≡ length out₀ → sets out i (drop i l) ≡ sets out₀ 0 l
@@ -85,7 +85,7 @@ placed heap p k v (suc m) place e l a =
     (omega (arith, at, n, length-take k (drop v heap), length-drop v heap), rw (at, n) (front k (drop v heap) ∙ sym e))
 
 -- g, v, count and place are what functions gave: the refusal, what the slot holds, the part's length, and where it begins
-pub viewed : (s : State) (memory : List (List ℕ)) (heap : List ℕ) (n g v count place : ℕ) (p : List ℕ) → Holds s memory → g ≡ refusal (store s heap) (view n)
+pub viewed : (s : State) (memory : List (List ℕ)) (heap : List ℕ) (n g v count place : ℕ) (p : List ℕ) → HoldsState s memory → g ≡ refusal (store s heap) (view n)
     → Outcome (view n) (store s heap) (viewAnswer (store s heap) n p) (store s heap) → (length p ≤ 16 → count ≡ length p) → v ≡ slotIn (s .frames .slots) (topIn (s .frames .standing)) n
     → place ≡ pick (eqb count 0) 0 v → Viewed n memory heap (g ∷ place ∷ count ∷ [])
 unfolding slot slotAt topFrame

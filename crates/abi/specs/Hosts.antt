@@ -11,7 +11,7 @@ use Rattle.outcomes.specs.Outcome.{store}
 use Rattle.outcomes.specs.Runs.{Event, Run, calls, answers}
 use Rattle.outcomes.specs.Shape.{Sized}
 use Rattle.store.specs.Dispatch.{isCall, decoded}
-use Rattle.abi.specs.Memory.{Holds, Called}
+use Rattle.abi.specs.Memory.{HoldsState, Called}
 
 -- a call's number, its four numbers, and its list
 pub record Request : Type 0 where
@@ -33,25 +33,25 @@ abbrev pub requested : List Request → List Call
 requested qs = joined (λ q. pick (isCall (q .number)) (decoded (q .number) (q .a) (q .b) (q .c) (q .d) (q .list) ∷ []) []) qs
 
 -- an answer, as a host reads it
-abbrev pub told : Answer → List ℕ
-told a = a .refusal ∷ a .values
+abbrev pub numbersOf : Answer → List ℕ
+numbersOf a = a .refusal ∷ a .values
 
 -- the replies to requests whose calls have these answers; a number that is no call's is refused by 24
 abbrev pub replied : List Request → List Answer → List (List ℕ)
 replied [] given = []
-replied (q ∷ qs) [] = told (refusedBy 24) ∷ replied qs []
-replied (q ∷ qs) (a ∷ given) = pick (isCall (q .number)) (told a ∷ replied qs given) (told (refusedBy 24) ∷ replied qs (a ∷ given))
+replied (q ∷ qs) [] = numbersOf (refusedBy 24) ∷ replied qs []
+replied (q ∷ qs) (a ∷ given) = pick (isCall (q .number)) (numbersOf a ∷ replied qs given) (numbersOf (refusedBy 24) ∷ replied qs (a ∷ given))
 
 -- memory holds one state
 unfoldable pub OneState : Type 0
-OneState = (s t : State) (memory : List (List ℕ)) → Holds s memory → Holds t memory → s ≡ t
+OneState = (s t : State) (memory : List (List ℕ)) → HoldsState s memory → HoldsState t memory → s ≡ t
 
 -- every state that memory holds has arrays of the lengths that demands 2 and 3 ask of audited memory
 unfoldable pub AllSized : Type 0
-AllSized = (s : State) (memory : List (List ℕ)) (heap : List ℕ) → Holds s memory → Sized (store s heap)
+AllSized = (s : State) (memory : List (List ℕ)) (heap : List ℕ) → HoldsState s memory → Sized (store s heap)
 
 -- a host's requests are a run of just the calls among them, and the replies have that run's answers: so the three demands speak of hosts too
 unfoldable pub HostRuns : Type 0
 HostRuns =
-    (s : State) (before after : List (List ℕ)) (heap heap' : List ℕ) (qs : List Request) (replies : List (List ℕ)) → Holds s before → Driven before heap qs replies after heap'
-    → (t : State) × (es : List Event) × Holds t after × Run (store s heap) es (store t heap') × (calls es ≡ requested qs) × (replies ≡ replied qs (answers es))
+    (s : State) (before after : List (List ℕ)) (heap heap' : List ℕ) (qs : List Request) (replies : List (List ℕ)) → HoldsState s before → Driven before heap qs replies after heap'
+    → (t : State) × (es : List Event) × HoldsState t after × Run (store s heap) es (store t heap') × (calls es ≡ requested qs) × (replies ≡ replied qs (answers es))

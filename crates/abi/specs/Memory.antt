@@ -37,15 +37,15 @@ limit zero = 1
 limit (suc n) = 256 * limit n
 
 -- each array has as many elements as its size says, each of no more bytes
-abbrev pub LaidOut : List (ℕ × ℕ) → List (List ℕ) → Type 0
-LaidOut [] [] = Unit {0}
-LaidOut [] (l ∷ ls) = ⊥
-LaidOut (p ∷ ps) [] = ⊥
-LaidOut (p ∷ ps) (l ∷ ls) = (length l ≡ p .1) × All (λ x. x < limit (p .0)) l × LaidOut ps ls
+abbrev pub OfSizes : List (ℕ × ℕ) → List (List ℕ) → Type 0
+OfSizes [] [] = Unit {0}
+OfSizes [] (l ∷ ls) = ⊥
+OfSizes (p ∷ ps) [] = ⊥
+OfSizes (p ∷ ps) (l ∷ ls) = (length l ≡ p .1) × All (λ x. x < limit (p .0)) l × OfSizes ps ls
 
 -- the memory holds the state s, laid out as the layout says
-unfoldable pub Holds : State → List (List ℕ) → Type 0
-Holds s memory = (memory ≡ arraysOf s) × LaidOut sizes memory
+unfoldable pub HoldsState : State → List (List ℕ) → Type 0
+HoldsState s memory = (memory ≡ arraysOf s) × OfSizes sizes memory
 
 -- the numbers that a host reads as the reply
 abbrev pub replyOf : Reply → List ℕ
@@ -53,16 +53,16 @@ replyOf r = r .refusal ∷ r .a ∷ r .b ∷ r .c ∷ r .d ∷ []
 
 -- make, with that heap, leaves the state that the memory then holds (document 01, Make)
 abbrev pub Made : List ℕ → List (List ℕ) → List ℕ → List ℕ → Type 0
-Made heap after heap' reply = (t : State) × (r : Reply) × Holds t after × (reply ≡ replyOf r) × MakeOutcome heap (answerOf r []) (store t heap')
+Made heap after heap' reply = (t : State) × (r : Reply) × HoldsState t after × (reply ≡ replyOf r) × MakeOutcome heap (answerOf r []) (store t heap')
 
 -- the call with that number, on the state that the memory held, leaves the one that it then holds
 abbrev pub Called : ℕ → ℕ → ℕ → ℕ → ℕ → List ℕ → List (List ℕ) → List ℕ → List (List ℕ) → List ℕ → List ℕ → Type 0
 Called number a b c d list before heap after heap' reply =
-    (s : State) × (t : State) × (r : Reply) × Holds s before × Holds t after × (reply ≡ replyOf r) × Dispatched number a b c d list (store s heap) r (store t heap')
+    (s : State) × (t : State) × (r : Reply) × HoldsState s before × HoldsState t after × (reply ≡ replyOf r) × Dispatched number a b c d list (store s heap) r (store t heap')
 
 -- view, on the state that the memory holds: the refusal, and the part as its place and length in the heap; the place is where the slot leads, and 0 with an empty part (document 01, View)
 abbrev pub Viewed : ℕ → List (List ℕ) → List ℕ → List ℕ → Type 0
 Viewed n memory heap out =
-    (s : State) × (refusal : ℕ) × (place : ℕ) × (count : ℕ) × Holds s memory × (out ≡ refusal ∷ place ∷ count ∷ [])
+    (s : State) × (refusal : ℕ) × (place : ℕ) × (count : ℕ) × HoldsState s memory × (out ≡ refusal ∷ place ∷ count ∷ [])
     × (place ≡ pick (eqb count 0) 0 (slot (store s heap) n)) × (place + count ≤ length heap)
     × Outcome (view n) (store s heap) (record { refusal = refusal; values = four []; part = take count (drop place heap) }) (store s heap)

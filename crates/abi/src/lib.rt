@@ -12,7 +12,7 @@ ghost use lib.Dec.{eqb};
 ghost use lib.ListN.{length};
 ghost use lib.Seq.{sets};
 ghost use Rattle.lists.specs.Lists.{pick};
-ghost use Rattle.abi.specs.Memory.{Holds, Made, Called, Viewed, layout};
+ghost use Rattle.abi.specs.Memory.{HoldsState, Made, Called, Viewed, layout};
 
 // The state that the memory holds.
 fn held(
@@ -30,7 +30,7 @@ fn held(
     owners: &[u8; 256],
     taken: &[u8; 256],
 ) -> State
-    ensures { λ s. ⌜ Holds s (numbers ∷ now (widths .entry) ∷ now (slots .entry) ∷ now (sizes .entry) ∷ now (marks .entry) ∷ now (names .entry) ∷ now (parents .entry) ∷ now (levels .entry) ∷ now (shares .entry) ∷ now (newest .entry) ∷ now (oldest .entry) ∷ now (owners .entry) ∷ now (taken .entry) ∷ []) ⌝ }
+    ensures { λ s. ⌜ HoldsState s (numbers ∷ now (widths .entry) ∷ now (slots .entry) ∷ now (sizes .entry) ∷ now (marks .entry) ∷ now (names .entry) ∷ now (parents .entry) ∷ now (levels .entry) ∷ now (shares .entry) ∷ now (newest .entry) ∷ now (oldest .entry) ∷ now (owners .entry) ∷ now (taken .entry) ∷ []) ⌝ }
 {
     let s = State {
         frames: Frames {
@@ -80,7 +80,7 @@ fn hold(
     owners: &mut [u8; 256],
     taken: &mut [u8; 256],
 )
-    ensures { λ _. ⌜ Holds s (now (numbers .exit) ∷ now (widths .exit) ∷ now (slots .exit) ∷ now (sizes .exit) ∷ now (marks .exit) ∷ now (names .exit) ∷ now (parents .exit) ∷ now (levels .exit) ∷ now (shares .exit) ∷ now (newest .exit) ∷ now (oldest .exit) ∷ now (owners .exit) ∷ now (taken .exit) ∷ []) ⌝ }
+    ensures { λ _. ⌜ HoldsState s (now (numbers .exit) ∷ now (widths .exit) ∷ now (slots .exit) ∷ now (sizes .exit) ∷ now (marks .exit) ∷ now (names .exit) ∷ now (parents .exit) ∷ now (levels .exit) ∷ now (shares .exit) ∷ now (newest .exit) ∷ now (oldest .exit) ∷ now (owners .exit) ∷ now (taken .exit) ∷ []) ⌝ }
 {
     shapes::state_shaped(s);
     *numbers = [

@@ -10,9 +10,9 @@ use crate::tables::{Ask, Refusal};
 /// Gives the region and the kind of the object that a slot leads to, 0 and 0 for null.
 #[derive(Clone, Copy, Debug, PartialEq, Eq)]
 pub struct About {
-    /// The first value.
+    /// The name of the object's region, 0 for null.
     pub region: u32,
-    /// The second value.
+    /// The number of its kind, 0 for null.
     pub kind: u32,
 }
 
@@ -21,13 +21,13 @@ pub struct About {
 /// Gives a region's stored count, its outside pointers, its pages, and the live subregions directly below it.
 #[derive(Clone, Copy, Debug, PartialEq, Eq)]
 pub struct Report {
-    /// The first value.
+    /// The stored count.
     pub count: u32,
-    /// The second value.
+    /// Its outside pointers.
     pub outside: u32,
-    /// The third value.
+    /// The pages that it holds.
     pub pages: u32,
-    /// The fourth value.
+    /// The live subregions directly below it.
     pub subregions: u32,
 }
 
@@ -36,13 +36,13 @@ pub struct Report {
 /// Gives how many pages are free, regions live, frames stand and frames are counted.
 #[derive(Clone, Copy, Debug, PartialEq, Eq)]
 pub struct Totals {
-    /// The first value.
+    /// The pages that are free.
     pub free_pages: u32,
-    /// The second value.
+    /// The regions that live, region 1 among them.
     pub regions: u32,
-    /// The third value.
+    /// The frames that stand.
     pub frames: u32,
-    /// The fourth value.
+    /// The frames, from the lowest on, that are counted.
     pub counted: u32,
 }
 
@@ -51,9 +51,9 @@ pub struct Totals {
 /// Gives the page of the object that a slot leads to and the word of its header there, 256 and 0 for null.
 #[derive(Clone, Copy, Debug, PartialEq, Eq)]
 pub struct Locate {
-    /// The first value.
+    /// The page on which the object lies, from 0 on, 256 for null.
     pub page: u32,
-    /// The second value.
+    /// The word of that page at which its header stands, from 0 on, 0 for null.
     pub word: u32,
 }
 

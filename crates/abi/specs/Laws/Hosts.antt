@@ -14,8 +14,8 @@ use Rattle.outcomes.specs.Outcome.{store, answerOf}
 use Rattle.outcomes.specs.Runs.{Event, Run, done, step, calls, answers}
 use Rattle.outcomes.specs.Shape.{Sized}
 use Rattle.store.specs.Dispatch.{isCall, decoded, DispatchedBy, Dispatched}
-use Rattle.abi.specs.Memory.{arraysOf, LaidOut, sizes, Holds, Called, replyOf}
-use Rattle.abi.specs.Hosts.{Request, Driven, ended, asked, requested, told, replied, OneState, AllSized, HostRuns}
+use Rattle.abi.specs.Memory.{arraysOf, OfSizes, sizes, HoldsState, Called, replyOf}
+use Rattle.abi.specs.Hosts.{Request, Driven, ended, asked, requested, numbersOf, replied, OneState, AllSized, HostRuns}
 
 -- the state that arrays are
 stateOf : List (List ℕ) → State
@@ -30,10 +30,10 @@ stateOf m =
     }
 
 pub one-state : OneState
-unfolding OneState Holds stateOf
+unfolding OneState HoldsState stateOf
 one-state s t m h k = sym (ap stateOf (h .0)) ∙ ap stateOf (k .0)
 
-sized : (s : State) (heap : List ℕ) → LaidOut sizes (arraysOf s) → Sized (store s heap)
+sized : (s : State) (heap : List ℕ) → OfSizes sizes (arraysOf s) → Sized (store s heap)
 sized s heap (_, _, (w, _, (l, _, (z, _, (m, _, (n, _, (p, _, (v, _, (h, _, (e, _, (o, _, (r, _, (t, _, _))))))))))))) =
     record {
       inFrames = record { widths = w; slots = l };
@@ -43,8 +43,8 @@ sized s heap (_, _, (w, _, (l, _, (z, _, (m, _, (n, _, (p, _, (v, _, (h, _, (e, 
     }
 
 pub all-sized : AllSized
-unfolding AllSized Holds
-all-sized s m heap (e, h) = sized s heap (subst (LaidOut sizes) e h)
+unfolding AllSized HoldsState
+all-sized s m heap (e, h) = sized s heap (subst (OfSizes sizes) e h)
 
 -- what a host has after requests that began with S and end with the state t
 abbrev Ran : Store → List Request → List (List ℕ) → State → List ℕ → Type 0
@@ -53,7 +53,7 @@ Ran S qs replies t heap = (es : List Event) × Run S es (store t heap) × (calls
 callOf : Request → Call
 callOf q = decoded (q .number) (q .a) (q .b) (q .c) (q .d) (q .list)
 
-replied-no : (q : Request) (qs : List Request) (given : List Answer) → isCall (q .number) ≡ false → replied (q ∷ qs) given ≡ told (refusedBy 24) ∷ replied qs given
+replied-no : (q : Request) (qs : List Request) (given : List Answer) → isCall (q .number) ≡ false → replied (q ∷ qs) given ≡ numbersOf (refusedBy 24) ∷ replied qs given
 replied-no q qs [] e = refl
 replied-no q qs (a ∷ given) e = rw e
 
@@ -64,16 +64,16 @@ unfolding callOf
 one-more q qs S T r replies u heap true e (part, o) (es, run, ec, er) =
     let event : Event = record { call = callOf q; answer = answerOf r part; left = T } in
     (event ∷ es, step o run, rw (e, ec), rw (e, er))
-one-more q qs S T r replies u heap false e (a, k) (es, run, ec, er) = (es, subst (λ U. Run U es (store u heap)) k run, rw (e, ec), ap (λ z. (z .refusal ∷ z .values) ∷ replies) a ∙ ap (λ z. told (refusedBy 24) ∷ z) er ∙ sym (replied-no q qs (answers es) e))
+one-more q qs S T r replies u heap false e (a, k) (es, run, ec, er) = (es, subst (λ U. Run U es (store u heap)) k run, rw (e, ec), ap (λ z. (z .refusal ∷ z .values) ∷ replies) a ∙ ap (λ z. numbersOf (refusedBy 24) ∷ z) er ∙ sym (replied-no q qs (answers es) e))
 
 -- the request's outcome, of the state that the memory is known to hold
-known : (q : Request) (s s' t : State) (memory : List (List ℕ)) (heap heap' : List ℕ) (r : Reply) → Holds s memory → Holds s' memory
+known : (q : Request) (s s' t : State) (memory : List (List ℕ)) (heap heap' : List ℕ) (r : Reply) → HoldsState s memory → HoldsState s' memory
     → Dispatched (q .number) (q .a) (q .b) (q .c) (q .d) (q .list) (store s' heap) r (store t heap') → DispatchedBy (isCall (q .number)) (callOf q) (store s heap) r (store t heap')
 unfolding OneState Dispatched callOf
 known q s s' t memory heap heap' r h k o = subst (λ x. DispatchedBy (isCall (q .number)) (callOf q) (store x heap) r (store t heap')) (one-state s' s memory k h) o
 
-ran : {before after : List (List ℕ)} {heap heap' : List ℕ} {qs : List Request} {replies : List (List ℕ)} (s : State) → Holds s before → Driven before heap qs replies after heap'
-    → (t : State) × Holds t after × Ran (store s heap) qs replies t heap'
+ran : {before after : List (List ℕ)} {heap heap' : List ℕ} {qs : List Request} {replies : List (List ℕ)} (s : State) → HoldsState s before → Driven before heap qs replies after heap'
+    → (t : State) × HoldsState t after × Ran (store s heap) qs replies t heap'
 ran s h ended = (s, h, ([], done, refl, refl))
 ran {before = m} {heap = heap} {heap' = end} {qs = q ∷ qs} {replies = y ∷ replies} s h (asked {heap' = left} (s', t, r, hs, ht, er, o) rest) =
     let (u, hu, more) = ran t ht rest in
