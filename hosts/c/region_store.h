@@ -23,12 +23,13 @@
 //       return 0;
 //   }
 //
-// Every call gives a reply: the refusal, RS_ACCEPTED or a number of enum rs_refusal, and four values, 0 where there is none. A call that is refused has changed nothing; of several reasons it names the one that comes first in the list at its function. (Of delete_all RS_NO_REGION and RS_PERMANENT are tested together, for one name after the other.)
+// Every call gives a reply: the refusal, RS_ACCEPTED or a number of enum rs_refusal, and four values, 0 where there is none. A call that is refused has changed nothing (but rs_make, see there); of several reasons it names the one that comes first in the list at its function. (Of delete_all RS_NO_REGION and RS_PERMANENT are tested together, for one name after the other.)
 //
 // What the program must keep to:
 //  - A store is used by one caller at a time, also for calls that only ask: the library may write what was there.
 //  - The heap is s->words words long and stays where it is, as long as the store is used. Store, heap, list and reply do not overlap, and only calls write the heap.
 //  - No pointer but that of an empty list or heap is null, and pointers are aligned as their types are.
+//  - A call takes up to 40 KiB of stack, beside what a thread takes by itself: small threads, coroutines and signal stacks may have less.
 // Whatever bytes the state and the heap hold, every call ends, touches only what it is lent, and answers (this is proved). But what a call answers is right only for a store that rs_make made, or for one that rs_audit finds sound, and that only calls have changed since.
 //
 // A struct rs_store may be copied or moved: nothing in it points into it. Two copies share one heap, so only one of them may be used.
@@ -259,7 +260,7 @@ static inline struct rs_reply rs_reply_of(const uint32_t *words)
 
 // Makes a store of the heap: every word becomes 0, every page free, and region 1, the permanent one, lives. What s held before does not matter.
 // No values.
-// Refused by RS_HEAP_LENGTH. Then the heap has not changed, and s holds no store: totals gives zeros, audit 0, all other calls are refused by RS_WRONG_HEAP.
+// Refused by RS_HEAP_LENGTH. Then the heap has not changed, but the state has: its arrays are all zeros, whatever they held, and s holds no store. Totals gives zeros, audit 0, and all other calls are refused by RS_WRONG_HEAP.
 // A heap that is NULL counts as one of 0 words.
 static inline struct rs_reply rs_make(struct rs_store *s, uint32_t *heap, size_t words)
 {

@@ -174,8 +174,11 @@ static void test_view(void)
 
 static void test_lengths(void)
 {
+    static const struct rs_state zeros;
     memset(heap, 0x5A, sizeof heap);
+    memset(&s, 0x5A, sizeof s);
     CHECK(refused(rs_make(&s, heap, 0), RS_HEAP_LENGTH));
+    CHECK(memcmp(&s.state, &zeros, sizeof zeros) == 0);
     CHECK(refused(rs_make(&s, heap, RS_PAGE_WORDS * (RS_MOST_PAGES + 1)), RS_HEAP_LENGTH));
     CHECK(refused(rs_make(&s, heap, 65), RS_HEAP_LENGTH));
     CHECK(heap[0] == 0x5A5A5A5A && heap[65] == 0x5A5A5A5A);

@@ -85,10 +85,10 @@ def saved_and_loaded(store):
         path = os.path.join(folder, "season.store")
         store.save(path)
         print("bytes:", os.path.getsize(path))
-        again = Store.from_file(path)
+        again = Store.load(path)
         os.truncate(path, 1000)
         try:
-            Store.from_file(path)
+            Store.load(path)
         except NotLoaded as error:
             print("not loaded:", error.message)
     return again

@@ -91,8 +91,8 @@ class Player:
         self.out = []
 
     def load(self, path):
-        self.named = Store.from_file(path)
-        self.numbered = Store.from_file(path)
+        self.named = Store.load(path)
+        self.numbered = Store.load(path)
 
     def answer(self, refusal, values):
         self.place += 1

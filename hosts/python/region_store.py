@@ -30,7 +30,8 @@ pointers are aligned and never null, also where a length is 0; the buffers do no
 where they are, and live as long as the library may use them; lengths are true; one caller at a
 time (see Store). The library was proved to end, to touch only what it is lent and to answer,
 whatever numbers the memory holds. What is left to the program: heap and view are read-only, and
-whoever gets round that writes into the store itself.
+whoever gets round that writes into the store itself; and a call takes up to 40 KiB of stack, beside
+what the interpreter takes, which threads have unless threading.stack_size gives them less.
 
 The library is looked for in this order: the file that the environment variable
 REGION_STORE_LIBRARY names (then nowhere else); libregion_store.so beside this module;
@@ -51,6 +52,7 @@ import zlib
 from array import array
 from collections import namedtuple
 from collections.abc import Iterable
+from types import MethodType
 
 Call = namedtuple("Call", "number name asks arguments values refusals")
 Call.__doc__ = "A call as the library knows it; asks is True where it leaves the store as it is."
@@ -300,14 +302,16 @@ class NotLoaded(_FileError):
     """A saved store was not loaded, and nothing has changed.
 
     number and name say which test it did not pass, message says it in words; path is the file's,
-    None where a copy or a pickle was to be restored.
+    None where a copy or a pickle was to be restored. It is chained as NotSaved is where the file
+    cannot be read.
     """
 
 
 class NotSaved(_FileError):
     """A store was not saved. number, name, message and path: as for NotLoaded.
 
-    It is chained from the OSError that says more.
+    It is chained from the error that says more, an OSError, or a ValueError where no file can have
+    that path.
     """
 
 
@@ -400,6 +404,20 @@ def _reply():
     return ctypes.byref(reply), reply
 
 
+def _lent(pages):
+    """Memory for a state and a heap, and the library's first arguments, converted once and for all:
+    a call has only its own numbers to convert."""
+    words = PAGE_WORDS * pages
+    memory = (ctypes.c_uint32 * (STATE_BYTES // 4 + max(words, PAGE_WORDS)))()
+    lent = []
+    place = 0
+    for _, width, length in LAYOUT:
+        lent.append(ctypes.byref(memory, place))
+        place += width * length
+    lent += [ctypes.byref(memory, place), ctypes.c_size_t.from_param(words)]
+    return memory, lent
+
+
 def _tested(data):
     """Why the bytes are no saved store, a number of FILES; 0 where they may be one."""
     if len(data) < _HEAD.size + _SUM.size:
@@ -446,12 +464,33 @@ def _restored(cls, data):
     return cls._loaded(None, data)
 
 
+class _OfEither:
+    """A name with two meanings: asked of an instance it is one method, asked of the class another,
+    which is given the class."""
+
+    def __init__(self, of_instance):
+        self._of_instance = of_instance
+
+    def of_class(self, function):
+        """Decorates the method that the class is asked for."""
+        self._of_class = function
+        return self
+
+    def __get__(self, instance, owner=None):
+        if instance is None:
+            return MethodType(self._of_class, owner)
+        return MethodType(self._of_instance, instance)
+
+
 class Store:
     """A store of 1 to 256 pages, and a method for each call.
 
-    Store(pages) makes it; any other number of pages is refused by 1, heap_length. (So is a
-    negative or a very large one: at most 257 pages are lent to be refused.) It holds its state
-    and its heap together, so that no method is ever refused by 21.
+    Store(pages) makes it. Any other number of pages is refused by 1, heap_length, a negative or a
+    very large one too (at most 257 pages are lent to be refused); then there is no store. It holds
+    its state and its heap together, so that no method is ever refused by 21.
+
+    store.save(path) saves a store, and Store.load(path), asked of the class, gives one that was
+    saved. store.load(slot, word, to), asked of a store, is call 13, and reads no file.
 
     Methods give None, an int, a bool, or a named tuple, as their values are none, one, one that is
     1 or 0, or several. They raise Refused where the call was refused; then nothing has changed.
@@ -471,30 +510,21 @@ class Store:
 
     def __init__(self, pages: int):
         pages = operator.index(pages)
-        lent = self._lend(min(max(pages, 0), MOST_PAGES + 1))
-        out, reply = self._replies[0]
+        memory, lent = _lent(min(max(pages, 0), MOST_PAGES + 1))
+        out, reply = _reply()
         _library.region_store_make(*lent, out)
         if reply[0]:
             raise Refused(CALLS[1].name, reply[0])
+        self._hold(memory, lent)
 
-    def _lend(self, pages):
-        """Takes memory for a state and a heap, and gives the library's first arguments, converted
-        once and for all: a call has only its own numbers to convert."""
-        words = PAGE_WORDS * pages
-        memory = (ctypes.c_uint32 * (STATE_BYTES // 4 + max(words, PAGE_WORDS)))()
-        lent = []
-        place = 0
-        for _, width, length in LAYOUT:
-            lent.append(ctypes.byref(memory, place))
-            place += width * length
-        lent += [ctypes.byref(memory, place), ctypes.c_size_t.from_param(words)]
+    def _hold(self, memory, lent):
+        """Makes this the store of some memory, as _lent gives it."""
         self._memory = memory
         self._heap = memoryview(memory).cast("B").cast("I")[STATE_BYTES // 4 :].toreadonly()
         self._call = functools.partial(_library.region_store_call, *lent)
         self._view = functools.partial(_library.region_store_view, *lent)
         self._lock = threading.RLock()
         self._replies = [_reply()]
-        return lent
 
     # ---- how calls are made
 
@@ -782,6 +812,9 @@ class Store:
             15 no_word: the object has no such word
             16 wrong_word: the word is data where a pointer is wanted, or the other way round; for
                 view, some word is no data
+
+        This is what a store is asked for. Asked of the class, Store.load(path) is another method:
+        it loads a saved store.
         """
         five = self._five(13, slot, word, to)
         if five[0]:
@@ -1068,12 +1101,16 @@ class Store:
         path = os.fsdecode(path)
         try:
             _write(path, self._saved())
-        except OSError as error:
+        except (OSError, ValueError) as error:
             raise NotSaved(path, FILE_UNWRITABLE) from error
 
-    @classmethod
-    def from_file(cls, path) -> Store:
-        """A new store from a saved file, str or os.PathLike. (load is a call, number 13.)
+    # Of a store this name is the call above, of the class the loader below.
+    load = _OfEither(load)
+
+    @load.of_class
+    def load(cls, path) -> Store:
+        """Store.load(path): a new store from a saved file, str or os.PathLike. Asked of a subclass,
+        it gives one of that class. (store.load(slot, word, to), asked of a store, is call 13.)
 
         Raises NotLoaded where the file is no saved store, with the first of the FILES, 1 to 8, that
         holds (but a file too short for its lengths is short, 2, after 5 was tested); then nothing has
@@ -1084,7 +1121,7 @@ class Store:
         try:
             with open(path, "rb") as file:
                 data = file.read(_LONGEST + 1)
-        except OSError as error:
+        except (OSError, ValueError) as error:
             raise NotLoaded(path, FILE_UNREADABLE) from error
         return cls._loaded(path, data)
 
@@ -1102,7 +1139,7 @@ class Store:
             raise NotLoaded(path, number)
         words = _HEAD.unpack_from(data)[3]
         store = cls.__new__(cls)
-        store._lend(words // PAGE_WORDS)
+        store._hold(*_lent(words // PAGE_WORDS))
         memoryview(store._memory).cast("B")[:] = data[_HEAD.size : -_SUM.size]
         if not Store.audit(store):
             raise NotLoaded(path, FILE_UNSOUND)

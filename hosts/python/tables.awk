@@ -176,6 +176,13 @@ function write_part() {
     print "        now has to be copied: list(view) or bytes(view)."
 }
 
+# What else the call's name means.
+function write_other(i) {
+    if (call_name[i] != "load") return
+    print ""
+    fold("        ", "        ", "This is what a store is asked for. Asked of the class, Store.load(path) is another method: it loads a saved store.")
+}
+
 function write_refusals(i,    parts, n, j) {
     n = split(call_refusals[i], parts, " ")
     print ""
@@ -208,7 +215,7 @@ function write_body(i,    parts, n) {
 }
 
 function write_method(i) {
-    if (call_name[i] ~ /^(call|pages|heap|image|save|from_file)$/ || argument(call_name[i]) != call_name[i]) {
+    if (call_name[i] ~ /^(call|pages|heap|image|save)$/ || argument(call_name[i]) != call_name[i]) {
         print "python/tables.awk: no method can be called " call_name[i] > "/dev/stderr"
         exit 1
     }
@@ -219,6 +226,7 @@ function write_method(i) {
     write_given(i)
     if (is_list(call_values[i])) write_part()
     write_refusals(i)
+    write_other(i)
     print "        \"\"\""
     write_body(i)
 }

@@ -14,6 +14,7 @@ import io
 import os
 import pathlib
 import pickle
+import pydoc
 import shutil
 import signal
 import struct
@@ -24,7 +25,9 @@ import threading
 import time
 import unittest
 import zlib
+from unittest import mock
 
+import cost
 import play
 import region_store
 from region_store import (
@@ -178,9 +181,10 @@ class Calls(unittest.TestCase):
         self.assertEqual(store.call(24, 1, list=[2]), (0, 1, 0, 0, 0))
 
     def test_a_method_for_each_call(self):
+        store = Store(1)
         for call in METHODS:
-            method = getattr(Store, call.name)
-            given = list(inspect.signature(method).parameters.values())[1:]
+            method = getattr(store, call.name)
+            given = list(inspect.signature(method).parameters.values())
             names = [word.rstrip(".") for word in call.arguments]
             self.assertEqual([one.name.rstrip("_") for one in given], names, call.name)
             if "filler" in names:
@@ -188,8 +192,9 @@ class Calls(unittest.TestCase):
                 self.assertEqual(given[-1].kind, inspect.Parameter.KEYWORD_ONLY)
 
     def test_docstrings(self):
+        store = Store(1)
         for call in METHODS:
-            text = " ".join(getattr(Store, call.name).__doc__.split())
+            text = " ".join(getattr(store, call.name).__doc__.split())
             at = 0
             for number in call.refusals:
                 found = text.find(f"{number} {REFUSALS[number]}: {REASONS[number]}", at)
@@ -200,6 +205,16 @@ class Calls(unittest.TestCase):
             if not call.refusals:
                 self.assertIn("Never refused", text)
 
+    def test_docstrings_of_values(self):
+        for call in METHODS:
+            if len(call.values) > 1:
+                values = getattr(region_store, call.name.title().replace("_", ""))
+                self.assertEqual(values._fields, call.values)
+                self.assertIn(f"What Store.{call.name} gives.\n", values.__doc__)
+                for field in values._fields:
+                    self.assertRegex(values.__doc__, rf"\n{field}: \w+")
+        self.assertIn("\noutside: its outside pointers\n", Report.__doc__)
+
 
 class Refusals(unittest.TestCase):
     """Each refusal that can be had, with its name and reason; nothing changes by it."""
@@ -207,11 +222,12 @@ class Refusals(unittest.TestCase):
     def setUp(self):
         self.seen = set()
 
-    def refused(self, number, store, name, *arguments, **filler):
+    def refused(self, number, store, name, *arguments, call=None, **filler):
         before = store.image()
         with self.assertRaises(Refused) as caught:
             getattr(store, name)(*arguments, **filler)
         error = caught.exception
+        name = call or name
         self.assertEqual((error.number, error.call), (number, name))
         self.assertEqual((error.name, error.reason), (REFUSALS[number], REASONS[number]))
         self.assertEqual(str(error), f"{name}: refused by {number}: {REASONS[number]}")
@@ -242,6 +258,9 @@ class Refusals(unittest.TestCase):
         for pages in (1.0, "1", None):
             with self.assertRaises(TypeError):
                 Store(pages)
+        store = small()
+        self.refused(1, store, "__init__", 257, call="make")
+        self.assertEqual(store.get(0, 1), 77)
 
     def of_frames(self):
         store = Store(1)
@@ -313,7 +332,7 @@ class Refusals(unittest.TestCase):
         with tempfile.TemporaryDirectory() as folder:
             path = pathlib.Path(folder, "many")
             path.write_bytes(mended(bytes(data)))
-            store = Store.from_file(path)
+            store = Store.load(path)
         self.assertEqual(store.new_region(), 1000000)
         self.refused(5, store, "new_region")
         self.refused(5, store, "subregion", 2)
@@ -617,7 +636,7 @@ class Files(unittest.TestCase):
     def not_loaded(self, data, name):
         self.path.write_bytes(data)
         with self.assertRaises(NotLoaded) as caught:
-            Store.from_file(self.path)
+            Store.load(self.path)
         error = caught.exception
         self.assertEqual(error.name, name)
         self.assertEqual(FILES[error.number], name)
@@ -632,7 +651,7 @@ class Files(unittest.TestCase):
             store.put(0, 0, 0x01020304)
             store.save(self.path)
             self.assertEqual(self.names(), ["one.store"])
-            other = Store.from_file(str(self.path))
+            other = Store.load(str(self.path))
             self.assertEqual(other.image(), store.image())
             self.assertEqual((other.pages, other.get(0, 0)), (pages, 0x01020304))
             data = self.path.read_bytes()
@@ -644,7 +663,7 @@ class Files(unittest.TestCase):
         store = small()
         for path in (self.path, str(self.path), os.fsencode(self.path)):
             store.save(path)
-            self.assertEqual(Store.from_file(path).image(), store.image())
+            self.assertEqual(Store.load(path).image(), store.image())
             self.path.unlink()
         with self.assertRaises(TypeError):
             store.save(3)
@@ -652,7 +671,7 @@ class Files(unittest.TestCase):
         self.addCleanup(os.chdir, here)
         os.chdir(self.folder)
         store.save("short")
-        self.assertEqual(Store.from_file("short").image(), store.image())
+        self.assertEqual(Store.load("short").image(), store.image())
 
     def not_saved(self, store, path):
         with self.assertRaises(NotSaved) as caught:
@@ -660,7 +679,7 @@ class Files(unittest.TestCase):
         error = caught.exception
         self.assertEqual((error.number, error.name), (10, "unwritable"))
         self.assertEqual(error.message, MESSAGES[10])
-        self.assertIsInstance(error.__cause__, OSError)
+        self.assertIsInstance(error.__cause__, (OSError, ValueError))
 
     def test_unwritable(self):
         store = small()
@@ -669,6 +688,7 @@ class Files(unittest.TestCase):
         self.assertFalse(os.path.exists(str(self.folder) + ".new"))
         (self.folder / "x.new").mkdir()
         self.not_saved(store, self.folder / "x")
+        self.not_saved(store, str(self.folder / "no\0path"))
         self.assertEqual(self.names(), ["x.new"])
 
     def test_a_save_that_fails_on_the_way(self):
@@ -692,14 +712,17 @@ class Files(unittest.TestCase):
         (self.folder / "one.store.new").write_bytes(b"left")
         store.save(self.path)
         self.assertEqual(self.names(), ["one.store"])
-        self.assertEqual(Store.from_file(self.path).get(0, 1), 5)
+        self.assertEqual(Store.load(self.path).get(0, 1), 5)
 
     def test_unreadable(self):
-        for path in (self.folder / "none", self.folder):
+        for path in (self.folder / "none", self.folder, "", "no\0path", "no\ud800path"):
             with self.assertRaises(NotLoaded) as caught:
-                Store.from_file(path)
+                Store.load(path)
             self.assertEqual((caught.exception.number, caught.exception.name), (1, "unreadable"))
-            self.assertIsInstance(caught.exception.__cause__, OSError)
+            self.assertIsInstance(caught.exception.__cause__, (OSError, ValueError))
+        for path in (3, None, 1.0, [self.path]):
+            with self.assertRaises(TypeError):
+                Store.load(path)
 
     def one_page(self):
         store = Store(1)
@@ -775,7 +798,90 @@ class Files(unittest.TestCase):
         self.assertEqual(data[word], 9)
         data[word] = 10
         self.path.write_bytes(mended(data))
-        self.assertEqual(Store.from_file(self.path).get(0, 1), 10)
+        self.assertEqual(Store.load(self.path).get(0, 1), 10)
+
+
+class Loads(unittest.TestCase):
+    """load asked of the class, which loads a file, and load asked of a store, which is call 13."""
+
+    def setUp(self):
+        folder = tempfile.TemporaryDirectory()
+        self.addCleanup(folder.cleanup)
+        self.path = os.path.join(folder.name, "one.store")
+        self.store = small()
+        self.store.save(self.path)
+
+    def help_of(self, thing):
+        return pydoc.plain(pydoc.render_doc(thing))
+
+    def test_help(self):
+        of_class, of_store = self.help_of(Store.load), self.help_of(self.store.load)
+        self.assertIn("load(path)", of_class)
+        self.assertIn("NotLoaded", of_class)
+        self.assertIn("store.load(slot, word, to), asked of a store, is call 13", of_class)
+        self.assertIn("load(slot: ", of_store)
+        self.assertIn("Leads a slot to where a pointer word of an object leads.", of_store)
+        self.assertIn("Store.load(path)", of_store)
+        self.assertNotIn("NotLoaded", of_store)
+        self.assertIn(Store.load.__doc__.splitlines()[0], self.help_of(Store))
+
+    def test_signatures(self):
+        self.assertEqual(list(inspect.signature(Store.load).parameters), ["path"])
+        self.assertEqual(list(inspect.signature(self.store.load).parameters), ["slot", "word", "to"])
+        self.assertEqual((Store.load.__name__, self.store.load.__name__), ("load", "load"))
+        self.assertIs(Store.load.__self__, Store)
+        self.assertIs(self.store.load.__self__, self.store)
+
+    def test_a_subclass(self):
+        for cls in (Store, Named):
+            self.assertIs(type(cls.load(self.path)), cls)
+            self.assertIs(type(cls.load(path=self.path)), cls)
+        loaded = Named.load(self.path)
+        self.assertEqual(loaded.image(), self.store.image())
+        self.assertIsNone(loaded.load(0, 0, 2))
+        self.assertTrue(loaded.same(1, 2))
+
+    def test_by_super(self):
+        class Counted(Store):
+            loads = 0
+
+            def load(self, slot, word, to):
+                self.loads += 1
+                return super().load(slot, word, to)
+
+        class Loader(Store):
+            @classmethod
+            def open(cls, path):
+                return super().load(path)
+
+        store = Loader.open(self.path)
+        self.assertIs(type(store), Loader)
+        counted = Counted(1)
+        with self.assertRaises(Refused):
+            counted.load(0, 0, 0)
+        self.assertEqual(counted.loads, 1)
+
+    def test_a_store_reads_no_file(self):
+        def opened(*_, **__):
+            self.fail("a file was opened")
+
+        before = self.store.image()
+        with mock.patch("builtins.open", opened), mock.patch("os.open", opened):
+            for given in ((self.path,), (self.path, 0, 1), (0, self.path, 1), (pathlib.Path(self.path), 0, 1)):
+                with self.assertRaises(TypeError):
+                    self.store.load(*given)
+            with self.assertRaises(TypeError):
+                self.store.load(path=self.path)
+            self.assertEqual(self.store.image(), before)
+            self.assertIsNone(self.store.load(0, 0, 2))
+        self.assertTrue(self.store.same(1, 2))
+
+    def test_a_class_makes_no_call(self):
+        before = self.store.image()
+        for given in ((0, 0, 2), (self.store, 0, 0, 2), (0,), (self.store,), ()):
+            with self.assertRaises(TypeError):
+                Store.load(*given)
+        self.assertEqual(self.store.image(), before)
 
 
 class Players(unittest.TestCase):
@@ -814,6 +920,17 @@ class Players(unittest.TestCase):
         player.numbered.call(2, list=[0])
         with self.assertRaises(play.Wrong):
             player.end(None)
+
+
+class Costs(unittest.TestCase):
+    """What the program that measures makes are calls that are accepted."""
+
+    def test_each(self):
+        store, region = cost.made()
+        for name, statement, _ in cost.STATEMENTS:
+            self.assertIn(name, NAMED)
+            self.assertTrue(statement.startswith(f"store.{name}("))
+            self.assertGreaterEqual(cost.cost(statement, {"store": store, "region": region}, 1), 0)
 
 
 class Imports(unittest.TestCase):

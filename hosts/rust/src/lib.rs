@@ -30,7 +30,7 @@
 //!
 //! # Calls and refusals
 //!
-//! Each call is a method of [`Store`]. Wrong arguments, of whatever numbers, are refused: "refused" means a number and nothing changed, neither state nor heap. The methods give it as [`Refusal`], the first in the method's list whose reason holds. [`Store::call`] makes any call by its number.
+//! Each call is a method of [`Store`]. Wrong arguments, of whatever numbers, are refused: "refused" means a number and nothing changed, neither state nor heap; where [`Store::new`] is refused there is no store. The methods give it as [`Refusal`], the first in the method's list whose reason holds. [`Store::call`] makes any call by its number.
 //!
 //! [`Refusal::WrongHeap`] stands in most lists, since the library asks that first; a [`Store`] keeps its state and its heap together, so it never comes here. [`Refusal::NoCall`] comes from [`Store::call`] alone.
 //!
@@ -46,7 +46,7 @@
 //! | lends buffers that do not overlap, with their true lengths | a [`Store`] owns its state and its heap; a list is another borrow than the `&mut` of a call that writes |
 //! | has one caller at a time | calls that act take `&mut self`, and [`Store`] is not [`Sync`]; it is [`Send`], so a store may move to another thread |
 //! | works with the library that it was written for | the layout is compared when a store is first made or loaded, and another library is a panic |
-//! | has the stack that a call takes: no call was seen to take 40 KiB | the main thread has some MiB, and a thread of [`std::thread`] 2 MiB, unless told otherwise |
+//! | has the stack that a call takes, up to 40 KiB beside what a thread takes by itself | the main thread has some MiB, and a thread of [`std::thread`] 2 MiB, unless told otherwise; [`Store::from_file`] takes up to 48 KiB |
 //! | keeps no part of the heap over a call that writes it | [`Store::view`] and [`Store::heap`] borrow the store: while one is held, only calls that ask can be made |
 //!
 //! Two threads cannot ask one store at once:

@@ -53,7 +53,7 @@ impl Store {
     ///
     /// # Errors
     ///
-    /// - 1 [`Refusal::HeapLength`], where `pages` is not 1 to 256
+    /// - 1 [`Refusal::HeapLength`], where `pages` is not 1 to 256. Then there is no store.
     ///
     /// # Panics
     ///
