@@ -476,7 +476,7 @@ static inline struct rs_reply rs_delete(struct rs_store *s, uint32_t region, uin
     return rs_call(s, RS_CALL_DELETE, region, filler, 0, 0, NULL, 0);
 }
 
-// Deletes 1 to 16 regions that may lead into each other, all or none, and gives how many pages that frees.
+// Deletes 1 to 16 regions that may lead into each other, all or none, and gives how many pages that frees. No_region and permanent are tested of one name after the other.
 // values[0]: pages.
 // Refused by RS_WRONG_HEAP, RS_NO_FILLER, RS_WRONG_NAMES, RS_NO_REGION, RS_PERMANENT, RS_SUBREGION_LIVES, RS_OUTSIDE_POINTER.
 static inline struct rs_reply rs_delete_all(struct rs_store *s, const uint32_t *regions, size_t count, uint32_t filler)

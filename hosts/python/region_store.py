@@ -1016,7 +1016,7 @@ class Store:
 
     def delete_all(self, regions: Iterable[int], *, filler: int = 0) -> int:
         """Deletes 1 to 16 regions that may lead into each other, all or none, and gives how many
-        pages that frees.
+        pages that frees. No_region and permanent are tested of one name after the other.
 
         Arguments:
             regions: any iterable of numbers

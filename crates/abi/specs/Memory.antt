@@ -36,14 +36,14 @@ abbrev pub limit : ℕ → ℕ
 limit zero = 1
 limit (suc n) = 256 * limit n
 
--- each array has as many elements as its size says, each of no more bytes
+-- each array has as many elements as its size says, each of no more bytes (that elements are no narrower, the types of the functions' arguments say)
 abbrev pub OfSizes : List (ℕ × ℕ) → List (List ℕ) → Type 0
 OfSizes [] [] = Unit {0}
 OfSizes [] (l ∷ ls) = ⊥
 OfSizes (p ∷ ps) [] = ⊥
 OfSizes (p ∷ ps) (l ∷ ls) = (length l ≡ p .1) × All (λ x. x < limit (p .0)) l × OfSizes ps ls
 
--- the memory holds the state s, laid out as the layout says
+-- the memory holds the state s, in arrays of these sizes
 unfoldable pub HoldsState : State → List (List ℕ) → Type 0
 HoldsState s memory = (memory ≡ arraysOf s) × OfSizes sizes memory
 

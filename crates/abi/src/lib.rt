@@ -1,5 +1,5 @@
 // The store for hosts in other languages: functions that C can call, on memory that the host lends. The state is lent as thirteen arrays, its numbers first, then its arrays in the order of its parts.
-// Pointers are aligned and not null, lengths are true, and no two buffers overlap: that the host answers for. What the memory holds does not matter.
+// Pointers are aligned and not null, also where a length is 0, lengths are true, and no two buffers overlap: that the host answers for. Whatever the memory holds, the calls are safe, end and have their outcomes; what these say of memory that the audit rejects is more than document 01 fixes.
 use frames::Frames;
 use kinds::Kinds;
 use pages::Pages;
@@ -291,7 +291,7 @@ fn write(out: &mut [u32], l: &[u32])
     }
 }
 
-// The layout: its version, then for each array the bytes of an element and how many elements there are; as far as there is room. Gives how many numbers that are.
+// The layout: its version, then for each array the bytes of an element and how many elements there are; written as far as there is room. Gives how many numbers a layout has, whether there was room for them or not.
 #[no_mangle]
 pub extern "C" fn region_store_layout(out: &mut [u32]) -> usize
     ensures { λ r. ⌜ (now (out .exit) ≡ sets (now (out .entry)) 0 layout) × (r ≡ length layout) ⌝ }

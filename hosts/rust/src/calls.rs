@@ -606,7 +606,7 @@ impl Store {
         Ok(v[1])
     }
 
-    /// Deletes 1 to 16 regions that may lead into each other, all or none, and gives how many pages that frees.
+    /// Deletes 1 to 16 regions that may lead into each other, all or none, and gives how many pages that frees. No_region and permanent are tested of one name after the other.
     ///
     /// Call 24; its value is `pages`.
     ///
