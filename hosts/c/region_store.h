@@ -1,7 +1,7 @@
 // A region store for C programs: objects in regions, with exact counts, in memory that the program lends.
 //
 // The library makes every decision and is proved; this header only passes the memory on. Link with the library:
-//   cc mine.c target/hosts/libregion_store.a
+//   cc -Ihosts/c mine.c target/hosts/libregion_store.a
 //
 // A first example: why a region cannot go while a slot leads into it.
 //
@@ -28,7 +28,7 @@
 // What the program must keep to:
 //  - A store is used by one caller at a time, also for calls that only ask: the library may write what was there.
 //  - The heap is s->words words long and stays where it is, as long as the store is used. Store, heap, list and reply do not overlap, and only calls write the heap.
-//  - No pointer but that of an empty list or heap is null, and pointers are aligned as their types are.
+//  - Pointers are aligned as their types are. To the functions rs_* a null list or heap counts as an empty one; no other pointer may be null. (The functions region_store_* take no null pointer at all: see there.)
 //  - A call takes up to 40 KiB of stack, beside what a thread takes by itself: small threads, coroutines and signal stacks may have less.
 // Whatever bytes the state and the heap hold, every call ends, touches only what it is lent, and answers (this is proved). But what a call answers is right only for a store that rs_make made, or for one that rs_audit finds sound, and that only calls have changed since.
 //
@@ -203,7 +203,8 @@ static inline const char *region_store_reason(uint32_t number)
 
 // ---- The library
 //
-// A program uses the functions further down; these are what they stand on. A reply is five words: the refusal, then the values. The view's three: the refusal, the place in the heap, how many words.
+// A program uses the functions further down; these are what they stand on. No pointer given to them may be null, also where a length is 0: an empty list or heap is some word with the length 0. A reply is five words: the refusal, then the values. The view's three: the refusal, the place in the heap, how many words.
+// region_store_layout writes the version of the layout, then of each array the bytes of an element and the number of elements, in the order of struct rs_state, as far as `room` goes. It gives how many numbers a layout has, whether there was room for them or not.
 
 #ifdef __cplusplus
 extern "C" {

@@ -22,6 +22,7 @@
 #include <fcntl.h>
 #include <stdio.h>
 #include <stdlib.h>
+#include <sys/stat.h>
 #include <unistd.h>
 
 #include "region_store.h"
@@ -69,8 +70,10 @@ static inline const char *rs_file_message(uint32_t number)
 #define RS_FILE_HEAD 20
 #define RS_FILE_SUM 4
 #define RS_FILE_MOST (RS_FILE_HEAD + RS_STATE_BYTES + 4 * RS_PAGE_WORDS * RS_MOST_PAGES + RS_FILE_SUM)
-// The longest path, its last 0 and `.new` included.
+// The longest path of a new file, PATH.PID.N.new, with its last 0.
 #define RS_FILE_PATH 4096
+// How many names PATH.PID.N.new are tried, N from 0 on.
+#define RS_FILE_NAMES 100
 
 // CRC-32 as zlib has it: of some bytes, after others that have the sum given, 0 where there are none.
 static inline uint32_t rs_crc32(uint32_t sum, const void *bytes, size_t count)
@@ -164,6 +167,26 @@ static inline void rs_in_state(const unsigned char **at, struct rs_state *state)
     // hosts/tables: end
 }
 
+// ---- Files and folders: what a signal has interrupted is asked again, but for close, after which the file is closed all the same
+
+// Opens a file or a folder, which programs that this one starts do not get; -1 where it cannot.
+static inline int rs_file_open(const char *path, int flags)
+{
+    int file;
+    do file = open(path, flags | O_CLOEXEC, 0666);
+    while (file < 0 && errno == EINTR);
+    return file;
+}
+
+// Has the disk take what was written to a file, or a folder's names; 1 where that went well.
+static inline int rs_file_flush(int file)
+{
+    int failed;
+    do failed = fsync(file);
+    while (failed && errno == EINTR);
+    return !failed;
+}
+
 // ---- Saving
 
 // The bytes of a saved store, at most RS_FILE_MOST; gives how many.
@@ -182,12 +205,10 @@ static inline size_t rs_file_bytes(const struct rs_store *s, unsigned char *byte
     return (size_t)(at - bytes);
 }
 
-// Writes a file and has the disk take it; 1 where all of that went well. A file that was there is overwritten, and removed where it cannot be written in full.
-static inline int rs_file_write(const char *path, const unsigned char *bytes, size_t count)
+// Writes the bytes to an open file, has the disk take them, and closes it; 1 where all of that went well.
+static inline int rs_file_write(int file, const unsigned char *bytes, size_t count)
 {
     int well = 1;
-    int file = open(path, O_WRONLY | O_CREAT | O_TRUNC, 0666);
-    if (file < 0) return 0;
     while (well && count > 0) {
         ssize_t n = write(file, bytes, count);
         if (n > 0) {
@@ -195,9 +216,8 @@ static inline int rs_file_write(const char *path, const unsigned char *bytes, si
             count -= (size_t)n;
         } else if (n == 0 || errno != EINTR) well = 0;
     }
-    if (fsync(file) != 0) well = 0;
-    if (close(file) != 0) well = 0;
-    if (!well) unlink(path);
+    if (well && !rs_file_flush(file)) well = 0;
+    if (close(file) != 0 && errno != EINTR) well = 0;
     return well;
 }
 
@@ -207,31 +227,45 @@ static inline int rs_file_folder(const char *path)
     char folder[RS_FILE_PATH];
     const char *last = strrchr(path, '/');
     size_t length = last ? (size_t)(last - path) : 0;
-    if (!last) return open(".", O_RDONLY);
-    if (last == path) return open("/", O_RDONLY);
+    if (!last) return rs_file_open(".", O_RDONLY | O_DIRECTORY);
+    if (last == path) return rs_file_open("/", O_RDONLY | O_DIRECTORY);
+    if (length >= sizeof folder) return -1;
     memcpy(folder, path, length);
     folder[length] = 0;
-    return open(folder, O_RDONLY);
+    return rs_file_open(folder, O_RDONLY | O_DIRECTORY);
 }
 
-// Writes the bytes to `path.new`, then renames that to the path; the folder is open.
+// Makes the new file beside the path, PATH.PID.N.new with the first N that is not taken, whatever stands there, a link too. Gives it open, and its name; -1 where it cannot be made.
+static inline int rs_file_beside(const char *path, char *name)
+{
+    for (int n = 0; n < RS_FILE_NAMES; n++) {
+        int length = snprintf(name, RS_FILE_PATH, "%s.%ld.%d.new", path, (long)getpid(), n);
+        int file;
+        if (length < 0 || length >= RS_FILE_PATH) return -1;
+        file = rs_file_open(name, O_WRONLY | O_CREAT | O_EXCL);
+        if (file >= 0 || errno != EEXIST) return file;
+    }
+    return -1;
+}
+
+// Writes the bytes to a new file beside the path, then renames that to the path; the folder is open. Only a file made here is removed.
 static inline int rs_file_replace(const char *path, int folder, const unsigned char *bytes, size_t count)
 {
     char beside[RS_FILE_PATH];
-    size_t length = strlen(path);
-    memcpy(beside, path, length);
-    memcpy(beside + length, ".new", 5);
-    if (!rs_file_write(beside, bytes, count)) return 0;
-    if (rename(beside, path) != 0) {
+    int file = rs_file_beside(path, beside);
+    if (file < 0) return 0;
+    if (!rs_file_write(file, bytes, count) || rename(beside, path) != 0) {
         unlink(beside);
         return 0;
     }
     // Some file systems have no flush of a folder: they say EINVAL.
-    return fsync(folder) == 0 || errno == EINVAL;
+    return rs_file_flush(folder) || errno == EINVAL;
 }
 
-// Saves a store: gives RS_FILE_DONE, or RS_FILE_UNWRITABLE, and then a file that was at the path is as it was, and `path.new` is not there. (If it is the folder alone that could not be flushed the new file is at the path already, but a loss of power may undo that.)
-// The file is written beside the path and then takes its place at once, so that there is a whole store at the path at every moment. A store that make refused, or whose heap is not the one made, is not saved.
+// Saves a store: gives RS_FILE_DONE or RS_FILE_UNWRITABLE.
+// The bytes are written to a new file beside the path, PATH.PID.N.new (PID the number of the process, N the first from 0 to 99 that is not taken), and flushed; then that file is renamed to the path, and the folder is flushed. So at every moment there is one whole store at the path, the old one or a new one, also where several threads or processes save to it at once: each has a file of its own, and the last to rename stays. A link at the path is replaced by the file, and what it led to is left as it was.
+// After RS_FILE_UNWRITABLE what was at the path is there as it was, unless all went well but the last step, the flush of the folder: then the new file is there, whole and flushed, but a loss of power may bring the old one back. (That a file system cannot flush folders at all is no failure.) The file beside the path is removed, if the system lets it be; no other file has been touched. A crash on the way may leave a file PATH.PID.N.new, which may be deleted.
+// A store that make refused, or whose heap is not the one made, is not saved.
 static inline enum rs_file rs_file_save(const struct rs_store *s, const char *path)
 {
     unsigned char *bytes;
@@ -239,7 +273,6 @@ static inline enum rs_file rs_file_save(const struct rs_store *s, const char *pa
     int well = 0;
     if (!s->heap || s->words == 0 || s->words > RS_PAGE_WORDS * RS_MOST_PAGES) return RS_FILE_UNWRITABLE;
     if (s->words != RS_PAGE_WORDS * (size_t)s->state.numbers[RS_MADE]) return RS_FILE_UNWRITABLE;
-    if (strlen(path) + 5 > RS_FILE_PATH) return RS_FILE_UNWRITABLE;
     bytes = (unsigned char *)malloc(RS_FILE_MOST);
     folder = rs_file_folder(path);
     if (bytes && folder >= 0) well = rs_file_replace(path, folder, bytes, rs_file_bytes(s, bytes));
@@ -258,23 +291,25 @@ struct rs_file_held {
     size_t count;
 };
 
-// Reads a file, or as much of it as there is room for; 1 where that went well.
+// Reads a file, or as much of it as there is room for; 1 where that went well. Folders, pipes and devices are not read, and a pipe is not waited for.
 static inline int rs_file_read(const char *path, struct rs_file_held *held)
 {
+    struct stat about;
     ssize_t n = 1;
-    int file = open(path, O_RDONLY);
+    int file = rs_file_open(path, O_RDONLY | O_NONBLOCK);
     if (file < 0) return 0;
+    if (fstat(file, &about) != 0 || !S_ISREG(about.st_mode)) n = -1;
     held->count = 0;
-    while (n != 0 && held->count < sizeof held->bytes) {
-        n = read(file, held->bytes + held->count, sizeof held->bytes - held->count);
+    while (n > 0 && held->count < sizeof held->bytes) {
+        do n = read(file, held->bytes + held->count, sizeof held->bytes - held->count);
+        while (n < 0 && errno == EINTR);
         if (n > 0) held->count += (size_t)n;
-        else if (n < 0 && errno != EINTR) break;
     }
     close(file);
     return n >= 0;
 }
 
-// Tests the bytes of a file, in the order of enum rs_file, and takes the store out of them.
+// Tests the bytes of a file, and takes the store out of them. The tests come in the order of enum rs_file, but that a file is short is told twice: first where it has not even the bytes that every file has, and again, before long, where it has fewer than its lengths say.
 static inline enum rs_file rs_file_take(struct rs_file_held *held)
 {
     const unsigned char *at = held->bytes + 8;
@@ -301,7 +336,7 @@ static inline enum rs_file rs_file_take(struct rs_file_held *held)
     return sound.refusal == RS_ACCEPTED && sound.values[0] == 1 ? RS_FILE_DONE : RS_FILE_UNSOUND;
 }
 
-// Loads a saved store into a heap of `room` words: gives RS_FILE_DONE, and then s holds the store and uses the first words of the heap, as many as the file has; or the reason that it is not loaded, and then neither s nor the heap has changed. Memory for the file that cannot be had counts as a file that cannot be read.
+// Loads a saved store into a heap of `room` words: gives RS_FILE_DONE, and then s holds the store and uses the first words of the heap, as many as the file has; or the reason that it is not loaded, and then neither s nor the heap has changed. What is no regular file (a folder, a pipe, a device) cannot be read; memory for the file that cannot be had counts as a file that cannot be read.
 static inline enum rs_file rs_file_load(struct rs_store *s, uint32_t *heap, size_t room, const char *path)
 {
     struct rs_file_held *held = (struct rs_file_held *)malloc(sizeof *held);
