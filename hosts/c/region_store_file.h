@@ -167,7 +167,7 @@ static inline void rs_in_state(const unsigned char **at, struct rs_state *state)
     // hosts/tables: end
 }
 
-// ---- Files and folders: what a signal has interrupted is asked again, but for close, after which the file is closed all the same
+// ---- Files and folders: what a signal interrupts is asked again, but for close, since the file may be closed all the same
 
 // Opens a file or a folder, which programs that this one starts do not get; -1 where it cannot.
 static inline int rs_file_open(const char *path, int flags)

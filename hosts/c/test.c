@@ -1,10 +1,86 @@
 // Tests of the C host.
 //   test LINES FOLDER
 // LINES has what document 01's session prints; files are written in FOLDER, and removed. Prints what is wrong, and how many checks were made; exits with 1 if one failed.
-#include "region_store_file.h"
+#define _POSIX_C_SOURCE 200809L
 
+#include <dirent.h>
+#include <errno.h>
+#include <fcntl.h>
 #include <inttypes.h>
+#include <stdarg.h>
+#include <stdio.h>
+#include <string.h>
 #include <sys/stat.h>
+#include <sys/wait.h>
+#include <time.h>
+#include <unistd.h>
+
+// ---- What saving and loading ask of the system is noted, and fails where it is told to
+
+// Each step as a letter: O opens a folder, o a file, w writes, f flushes a file, m renames, d flushes a folder, r reads.
+static char steps[64];
+static ino_t flushed, moved, flushed_folder;
+static int kept_open; // files that other programs would get
+static size_t at_once; // the most bytes of a read or a write, 0 for all
+static struct {
+    char step;
+    int by; // the errno
+    int times;
+} failing;
+
+static int fails(char step)
+{
+    size_t at = strlen(steps);
+    if (at + 1 < sizeof steps) steps[at] = step;
+    if (step != failing.step || failing.times == 0) return 0;
+    failing.times--;
+    errno = failing.by;
+    return 1;
+}
+
+static size_t some(size_t count) { return at_once && count > at_once ? at_once : count; }
+
+static int noted_open(const char *name, int flags, ...)
+{
+    va_list more;
+    int mode;
+    va_start(more, flags);
+    mode = flags & O_CREAT ? va_arg(more, int) : 0;
+    va_end(more);
+    if (!(flags & O_CLOEXEC)) kept_open++;
+    return fails(flags & O_DIRECTORY ? 'O' : 'o') ? -1 : open(name, flags, mode);
+}
+
+static ssize_t noted_write(int file, const void *from, size_t count) { return fails('w') ? -1 : write(file, from, some(count)); }
+
+static ssize_t noted_read(int file, void *to, size_t count) { return fails('r') ? -1 : read(file, to, some(count)); }
+
+static int noted_fsync(int file)
+{
+    struct stat about;
+    int folder = fstat(file, &about) == 0 && S_ISDIR(about.st_mode);
+    *(folder ? &flushed_folder : &flushed) = about.st_ino;
+    return fails(folder ? 'd' : 'f') ? -1 : fsync(file);
+}
+
+static int noted_rename(const char *from, const char *to)
+{
+    struct stat about;
+    moved = stat(from, &about) == 0 ? about.st_ino : 0;
+    return fails('m') ? -1 : rename(from, to);
+}
+
+#define open noted_open
+#define write noted_write
+#define read noted_read
+#define fsync noted_fsync
+#define rename noted_rename
+#include "region_store_file.h"
+#undef open
+#undef write
+#undef read
+#undef fsync
+#undef rename
 
 #include "by_name.h"
 
@@ -44,6 +120,14 @@ static int refused(struct rs_reply r, uint32_t number)
 static int sound(void) { return gives(rs_audit(&s), 1, 0, 0, 0); }
 
 static const uint32_t one_free[] = {1, 0}, numbers_only[] = {0, 0, 0}, each_mark[] = {0, 1, 2, 3, 4};
+
+static void test_layout(void)
+{
+    uint32_t out[4] = {9, 9, 9, 9};
+    CHECK(rs_layout_matches());
+    CHECK(region_store_layout(out, 0) == 27 && out[0] == 9);
+    CHECK(region_store_layout(out, 3) == 27 && out[0] == RS_LAYOUT_VERSION && out[1] == 4 && out[2] == 5 && out[3] == 9);
+}
 
 // ---- Document 01's session
 
@@ -312,7 +396,7 @@ static void test_reasons(void)
 
 // ---- Saved stores
 
-static char path[512], beside[520];
+static char folder[256], path[512];
 static struct rs_store other;
 static uint32_t other_heap[RS_PAGE_WORDS * RS_MOST_PAGES];
 static unsigned char bytes[RS_FILE_MOST + 300];
@@ -331,7 +415,33 @@ static void read_file(void)
     CHECK(f && fclose(f) == 0);
 }
 
-static int is_there(const char *name) { return access(name, F_OK) == 0; }
+static int is_there(const char *name)
+{
+    struct stat about;
+    return lstat(name, &about) == 0;
+}
+
+// The file that the Nth name is of, where this process saves to the path.
+static const char *new_name(int n)
+{
+    static char name[600];
+    snprintf(name, sizeof name, "%s.%ld.%d.new", path, (long)getpid(), n);
+    return name;
+}
+
+// How many files there are beside the path that begin with its name.
+static unsigned beside(void)
+{
+    const char *last = strrchr(path, '/') + 1;
+    struct dirent *entry;
+    unsigned n = 0;
+    DIR *d = opendir(folder);
+    CHECK(d != NULL);
+    while (d && (entry = readdir(d)) != NULL)
+        if (strncmp(entry->d_name, last, strlen(last)) == 0 && strcmp(entry->d_name, last) != 0) n++;
+    if (d) closedir(d);
+    return n;
+}
 
 // Loads, and if that is refused sees that nothing has changed.
 static enum rs_file load(size_t room)
@@ -375,7 +485,7 @@ static void test_round_trip(void)
     for (pages = 1; pages <= RS_MOST_PAGES; pages = 3 * pages + 1) {
         make(pages);
         rs_new_region(&s);
-        CHECK(rs_file_save(&s, path) == RS_FILE_DONE && !is_there(beside));
+        CHECK(rs_file_save(&s, path) == RS_FILE_DONE && beside() == 0);
         CHECK(load(sizeof other_heap / 4) == RS_FILE_DONE && equal() && other.heap == other_heap);
     }
     make(RS_MOST_PAGES);
@@ -389,32 +499,182 @@ static void test_round_trip(void)
     CHECK(rs_file_load(&other, NULL, RS_PAGE_WORDS, path) == RS_FILE_NO_ROOM);
 }
 
+// What is at the path is what was last read from it.
+static int as_it_was(void)
+{
+    static unsigned char before[sizeof bytes];
+    size_t count = length;
+    memcpy(before, bytes, length);
+    read_file();
+    return length == count && memcmp(before, bytes, length) == 0;
+}
+
 static void test_unwritable(void)
 {
-    char away[600];
+    static char away[5000];
     struct rs_store none;
-    unsigned char before[3932];
-    memcpy(before, bytes, sizeof before);
     snprintf(away, sizeof away, "%s.away/store", path);
     CHECK(rs_file_save(&s, away) == RS_FILE_UNWRITABLE && !is_there(away));
-    // A folder stands where the new file should be written; then one where it should be renamed to.
-    CHECK(mkdir(beside, 0777) == 0);
-    CHECK(rs_file_save(&s, path) == RS_FILE_UNWRITABLE);
-    CHECK(rmdir(beside) == 0);
+    // A folder stands where the new file should be renamed to.
     snprintf(away, sizeof away, "%s.away", path);
     CHECK(mkdir(away, 0777) == 0);
-    CHECK(rs_file_save(&s, away) == RS_FILE_UNWRITABLE);
-    CHECK(rs_file_load(&other, other_heap, RS_PAGE_WORDS, away) == RS_FILE_UNREADABLE);
+    CHECK(rs_file_save(&s, away) == RS_FILE_UNWRITABLE && beside() == 1);
     CHECK(rmdir(away) == 0);
-    strcat(away, ".new");
-    CHECK(!is_there(away));
+    memset(away, 'x', sizeof away - 1);
+    CHECK(rs_file_save(&s, away) == RS_FILE_UNWRITABLE);
+    away[sizeof away - 3] = '/';
+    CHECK(rs_file_save(&s, away) == RS_FILE_UNWRITABLE);
     rs_make(&none, NULL, 0);
     CHECK(rs_file_save(&none, path) == RS_FILE_UNWRITABLE);
-    read_file();
-    CHECK(length == sizeof before && memcmp(before, bytes, length) == 0);
+    CHECK(as_it_was() && beside() == 0);
     CHECK(strcmp(rs_file_message(RS_FILE_DONE), "done") == 0);
     CHECK(strcmp(rs_file_message(RS_FILE_UNWRITABLE), "the file cannot be written") == 0);
     CHECK(strcmp(rs_file_message(11), "no message has that number") == 0);
+}
+
+// So that a save writes other bytes.
+static void change(void) { CHECK(rs_new_region(&s).refusal == RS_ACCEPTED); }
+
+// Saves, or loads, while a step fails by an errno so many times, and gives the answer; the steps are noted.
+static enum rs_file save_failing(char step, int by, int times)
+{
+    enum rs_file answer;
+    memset(steps, 0, sizeof steps);
+    failing.step = step;
+    failing.by = by;
+    failing.times = times;
+    answer = step == 'r' ? load(RS_PAGE_WORDS) : rs_file_save(&s, path);
+    failing.step = 0;
+    return answer;
+}
+
+// The folder is opened first; the file is flushed before it is renamed, and the folder after that.
+static void test_steps(void)
+{
+    struct stat about, plain;
+    CHECK(save_failing(0, 0, 0) == RS_FILE_DONE && strcmp(steps, "Oowfmd") == 0);
+    CHECK(stat(path, &about) == 0 && flushed == about.st_ino && moved == about.st_ino);
+    CHECK(stat(folder, &plain) == 0 && flushed_folder == plain.st_ino);
+    unlink(path);
+    write_file(bytes, length);
+    CHECK(stat(path, &plain) == 0 && plain.st_mode == about.st_mode);
+    at_once = 1000;
+    CHECK(save_failing(0, 0, 0) == RS_FILE_DONE && strcmp(steps, "Oowwwwfmd") == 0 && as_it_was());
+    CHECK(load(RS_PAGE_WORDS) == RS_FILE_DONE && equal());
+    at_once = 0;
+    CHECK(kept_open == 0);
+}
+
+static void test_failures(void)
+{
+    static const char each[] = "Oowfdr", before_it_stands[] = "Oowfm";
+    size_t i;
+    for (i = 0; each[i]; i++) CHECK(save_failing(each[i], EINTR, 3) == RS_FILE_DONE);
+    CHECK(save_failing('r', EIO, 1) == RS_FILE_UNREADABLE);
+    change();
+    for (i = 0; before_it_stands[i]; i++) {
+        CHECK(save_failing(before_it_stands[i], EIO, 1) == RS_FILE_UNWRITABLE);
+        CHECK(as_it_was() && beside() == 0);
+    }
+    CHECK(save_failing('f', EINVAL, 1) == RS_FILE_UNWRITABLE && as_it_was() && beside() == 0);
+    // Where the folder alone is not flushed the new file stands there.
+    CHECK(save_failing('d', EIO, 1) == RS_FILE_UNWRITABLE && beside() == 0);
+    CHECK(load(RS_PAGE_WORDS) == RS_FILE_DONE && equal());
+    change();
+    CHECK(save_failing('d', EINVAL, 1) == RS_FILE_DONE && beside() == 0);
+    CHECK(load(RS_PAGE_WORDS) == RS_FILE_DONE && equal());
+    read_file();
+}
+
+// Names that are taken, by a file, a folder or a link, are left as they are; where all are, the save is refused.
+static void test_taken_names(void)
+{
+    struct stat about;
+    int n;
+    CHECK(rename(path, new_name(0)) == 0 && mkdir(new_name(1), 0777) == 0 && symlink("nowhere", new_name(2)) == 0);
+    CHECK(stat(new_name(0), &about) == 0);
+    CHECK(rs_file_save(&s, path) == RS_FILE_DONE && as_it_was() && beside() == 3 && !is_there(new_name(3)));
+    moved = about.st_ino;
+    CHECK(stat(new_name(0), &about) == 0 && about.st_ino == moved && about.st_size == (off_t)length);
+    for (n = 3; n < RS_FILE_NAMES; n++) CHECK(symlink(path, new_name(n)) == 0);
+    CHECK(save_failing(0, 0, 0) == RS_FILE_UNWRITABLE && strchr(steps, 'w') == NULL);
+    CHECK(as_it_was() && beside() == RS_FILE_NAMES);
+    CHECK(unlink(new_name(RS_FILE_NAMES - 1)) == 0 && rs_file_save(&s, path) == RS_FILE_DONE);
+    for (n = 0; n < RS_FILE_NAMES - 1; n++) CHECK(n == 1 ? rmdir(new_name(n)) == 0 : unlink(new_name(n)) == 0);
+    CHECK(as_it_was() && beside() == 0);
+}
+
+// A link with the new file's name is not followed; one at the path is replaced.
+static void test_links(void)
+{
+    char target[600];
+    struct stat about;
+    snprintf(target, sizeof target, "%s.target", path);
+    CHECK(rename(path, target) == 0 && symlink(target, new_name(0)) == 0 && symlink(target, path) == 0);
+    change();
+    CHECK(rs_file_save(&s, path) == RS_FILE_DONE && beside() == 2);
+    CHECK(lstat(path, &about) == 0 && S_ISREG(about.st_mode));
+    CHECK(load(RS_PAGE_WORDS) == RS_FILE_DONE && equal());
+    CHECK(lstat(new_name(0), &about) == 0 && S_ISLNK(about.st_mode) && unlink(new_name(0)) == 0);
+    CHECK(rename(target, path) == 0 && as_it_was());
+    CHECK(rs_file_save(&s, path) == RS_FILE_DONE && beside() == 0);
+    read_file();
+}
+
+// A pipe would be waited for: then the alarm ends the program.
+static void test_not_files(void)
+{
+    char fifo[600];
+    snprintf(fifo, sizeof fifo, "%s.fifo", path);
+    CHECK(mkfifo(fifo, 0666) == 0);
+    alarm(20);
+    CHECK(rs_file_load(&other, other_heap, RS_PAGE_WORDS, fifo) == RS_FILE_UNREADABLE);
+    strcat(fifo, "/x");
+    CHECK(rs_file_save(&s, fifo) == RS_FILE_UNWRITABLE);
+    *strrchr(fifo, '/') = 0;
+    alarm(0);
+    CHECK(rs_file_load(&other, other_heap, RS_PAGE_WORDS, folder) == RS_FILE_UNREADABLE);
+    CHECK(rs_file_load(&other, other_heap, RS_PAGE_WORDS, "/dev/null") == RS_FILE_UNREADABLE);
+    CHECK(rs_file_load(&other, other_heap, RS_PAGE_WORDS, "/dev/zero") == RS_FILE_UNREADABLE);
+    CHECK(unlink(fifo) == 0);
+}
+
+static int64_t milliseconds(void)
+{
+    struct timespec now;
+    clock_gettime(CLOCK_MONOTONIC, &now);
+    return 1000 * (int64_t)now.tv_sec + now.tv_nsec / 1000000;
+}
+
+// A process that saves a store over and over.
+static pid_t saver(const struct rs_store *one, int64_t until)
+{
+    pid_t child = fork();
+    if (child != 0) return child;
+    do if (rs_file_save(one, path) != RS_FILE_DONE) _exit(1);
+    while (milliseconds() < until);
+    _exit(0);
+}
+
+// Two processes save two stores to one path; at each moment one of the two is there.
+static void test_savers(void)
+{
+    static uint32_t large_heap[RS_PAGE_WORDS * RS_MOST_PAGES];
+    static struct rs_store large;
+    int64_t until = milliseconds() + 500;
+    int i, status;
+    pid_t child[2];
+    CHECK(gives(rs_make(&large, large_heap, sizeof large_heap / 4), 0, 0, 0, 0));
+    child[0] = saver(&s, until);
+    child[1] = saver(&large, until);
+    CHECK(child[0] > 0 && child[1] > 0);
+    while (milliseconds() < until) {
+        CHECK(rs_file_load(&other, other_heap, sizeof other_heap / 4, path) == RS_FILE_DONE);
+        CHECK(equal() || (other.words == large.words && memcmp(&large.state, &other.state, sizeof large.state) == 0));
+    }
+    for (i = 0; i < 2; i++) CHECK(waitpid(child[i], &status, 0) == child[i] && WIFEXITED(status) && WEXITSTATUS(status) == 0);
+    CHECK(beside() == 0);
+    CHECK(rs_file_save(&s, path) == RS_FILE_DONE && as_it_was());
 }
 
 // What a load of a file of one page answers where the byte at a place is changed.
@@ -620,9 +880,9 @@ int main(int count, char **words)
         fprintf(stderr, "test LINES FOLDER\n");
         return 1;
     }
-    snprintf(path, sizeof path, "%s/c.store", words[2]);
-    snprintf(beside, sizeof beside, "%s.new", path);
-    CHECK(rs_layout_matches());
+    snprintf(folder, sizeof folder, "%s", words[2]);
+    snprintf(path, sizeof path, "%s/c.%ld.store", folder, (long)getpid());
+    test_layout();
     test_session(words[1]);
     test_stack();
     test_words();
@@ -636,6 +896,12 @@ int main(int count, char **words)
     test_deletes_refused();
     test_round_trip();
     test_unwritable();
+    test_steps();
+    test_failures();
+    test_taken_names();
+    test_links();
+    test_not_files();
+    test_savers();
     test_damage();
     test_mended();
     test_reasons();

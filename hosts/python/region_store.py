@@ -42,17 +42,22 @@ with the one that this module knows, and ImportError is raised where they differ
 from __future__ import annotations
 
 import ctypes
+import errno
 import functools
 import operator
 import os
+import stat
 import struct
 import sys
 import threading
+import weakref
 import zlib
 from array import array
 from collections import namedtuple
 from collections.abc import Iterable
 from types import MethodType
+
+__all__ = ["Store", "Refused", "NotLoaded", "NotSaved", "CALLS", "REFUSALS", "REASONS"]
 
 Call = namedtuple("Call", "number name asks arguments values refusals")
 Call.__doc__ = "A call as the library knows it; asks is True where it leaves the store as it is."
@@ -308,7 +313,7 @@ class NotLoaded(_FileError):
 
 
 class NotSaved(_FileError):
-    """A store was not saved. number, name, message and path: as for NotLoaded.
+    """A store was not saved (see Store.save). number, name, message and path: as for NotLoaded.
 
     It is chained from the error that says more, an OSError, or a ValueError where no file can have
     that path.
@@ -338,7 +343,7 @@ def _opened():
     places = _places()
     path = next((place for place in places if os.path.exists(place)), None)
     if path is None:
-        raise ImportError("region_store: no library; looked for " + " and ".join(places))
+        raise ImportError("region_store: no library; looked for " + " and ".join(places) + "; hosts/build makes it")
     # Calls are short, an audit of a full store the longest, so PyDLL: the interpreter's lock is kept.
     try:
         library = ctypes.PyDLL(path)
@@ -437,26 +442,60 @@ def _tested(data):
     return 0 if _SUM.unpack_from(data, end)[0] == zlib.crc32(data[:end]) else FILE_WRONG_SUM
 
 
+def _beside(path):
+    """A new file beside the path, open: PATH.PID.N.new with the first N that is not taken, whatever
+    stands there, a link too."""
+    for n in range(100):
+        try:
+            return open(f"{path}.{os.getpid()}.{n}.new", "xb")
+        except FileExistsError:
+            continue
+    raise FileExistsError(errno.EEXIST, "each name PATH.PID.N.new is taken", path)
+
+
+def _removed(file):
+    """Removes an open file, unless it was renamed: then its name may be another save's."""
+    try:
+        if os.path.samestat(os.fstat(file.fileno()), os.lstat(file.name)):
+            os.unlink(file.name)
+    except OSError:
+        pass
+
+
 def _write(path, data):
     """Writes the bytes to the path, all or none: to a file beside it first, which is renamed."""
-    beside = path + ".new"
-    folder = os.open(os.path.dirname(path) or ".", os.O_RDONLY | os.O_DIRECTORY)
+    folder = os.open(os.path.dirname(path) or ".", os.O_RDONLY | os.O_DIRECTORY | os.O_CLOEXEC)
     try:
-        try:
-            with open(beside, "wb") as file:
+        with _beside(path) as file:
+            try:
                 file.write(data)
                 file.flush()
                 os.fsync(file.fileno())
-            os.replace(beside, path)
-        except BaseException:
-            try:
-                os.unlink(beside)
-            except OSError:
-                pass
-            raise
-        os.fsync(folder)
+                os.rename(file.name, path)
+            except BaseException:
+                _removed(file)
+                raise
+        try:
+            os.fsync(folder)
+        except OSError as error:
+            # Some file systems have no flush of a folder: they say EINVAL.
+            if error.errno != errno.EINVAL:
+                raise
     finally:
         os.close(folder)
+
+
+def _at_once(path, flags):
+    """Opens a file; a pipe is not waited for."""
+    return os.open(path, flags | os.O_NONBLOCK | os.O_CLOEXEC)
+
+
+def _read(path):
+    """The bytes of a file; of one that is longer than every saved store one byte more than that."""
+    with open(path, "rb", opener=_at_once) as file:
+        if not stat.S_ISREG(os.fstat(file.fileno()).st_mode):
+            raise OSError(errno.EINVAL, "not a regular file", path)
+        return file.read(_LONGEST + 1)
 
 
 def _restored(cls, data):
@@ -482,6 +521,26 @@ class _OfEither:
         return MethodType(self._of_instance, instance)
 
 
+# The stores that there are, by id.
+_stores = weakref.WeakValueDictionary()
+
+
+def _forked():
+    """In a child of fork: renews the locks that threads held which are not in the child. A lock that
+    the thread which forked holds itself stays as it is."""
+    for reference in _stores.valuerefs():
+        store = reference()
+        if store is None:
+            continue
+        if store._lock.acquire(blocking=False):
+            store._lock.release()
+        else:
+            store._lock = threading.RLock()
+
+
+os.register_at_fork(after_in_child=_forked)
+
+
 class Store:
     """A store of 1 to 256 pages, and a method for each call.
 
@@ -501,6 +560,10 @@ class Store:
     other. 'with store:' holds it for several calls, so that no other thread's come between; there
     is nothing to close. The thread that holds it may go on calling, from a signal handler or a
     finaliser too.
+
+    A child of os.fork has a copy of each store and may use it, also where another thread of the
+    parent held the lock at that moment: that thread is not in the child, and its lock is not held
+    there. Of calls that it made under 'with store:' the copy has those before the fork.
 
     copy.copy, copy.deepcopy and pickle give a store with memory of its own, equal in state and
     heap; what they restore is tested as a file is (NotLoaded).
@@ -525,6 +588,7 @@ class Store:
         self._view = functools.partial(_library.region_store_view, *lent)
         self._lock = threading.RLock()
         self._replies = [_reply()]
+        _stores[id(self)] = self
 
     # ---- how calls are made
 
@@ -1093,10 +1157,17 @@ class Store:
     def save(self, path) -> None:
         """Saves the store to a file, str or os.PathLike, all or nothing.
 
-        PATH.new is written beside it and flushed, then renamed to PATH, and the folder is flushed.
-        Raises NotSaved where that fails: PATH.new is removed, and a file that was there before is
-        as it was (or is the new one, where only the last flush, the folder's, failed). A link at
-        PATH is replaced, not followed.
+        PATH.PID.N.new (PID the number of the process, N the first from 0 to 99 that is not taken) is
+        written beside it and flushed, then renamed to PATH, and the folder is flushed. So at every
+        moment there is one whole store at PATH, the old one or a new one, also where several threads
+        or processes save to it at once: each has a file of its own, and the last to rename stays. A
+        link at PATH is replaced by the file, and what it led to is left as it was.
+
+        Raises NotSaved where that fails: what was at PATH is there as it was, unless all went well
+        but the last step, the flush of the folder; then the new file is there, whole and flushed,
+        but a loss of power may bring the old one back. (That a file system cannot flush folders at
+        all is no failure.) The file beside PATH is removed, if the system lets it be; no other file
+        has been touched. A crash on the way may leave a file PATH.PID.N.new, which may be deleted.
         """
         path = os.fsdecode(path)
         try:
@@ -1114,13 +1185,14 @@ class Store:
 
         Raises NotLoaded where the file is no saved store, with the first of the FILES, 1 to 8, that
         holds (but a file too short for its lengths is short, 2, after 5 was tested); then nothing has
-        changed. The last two tests need each other. The audit is no sum: data words and entries not
-        in use are not its business. And a sum is no audit: it says nothing of what was summed.
+        changed. What is no regular file (a folder, a pipe, a device) is unreadable, 1, and a pipe is
+        not waited for. The last two tests need each other. The audit is no sum: data words and
+        entries not in use are not its business. And a sum is no audit: it says nothing of what was
+        summed.
         """
         path = os.fsdecode(path)
         try:
-            with open(path, "rb") as file:
-                data = file.read(_LONGEST + 1)
+            data = _read(path)
         except (OSError, ValueError) as error:
             raise NotLoaded(path, FILE_UNREADABLE) from error
         return cls._loaded(path, data)

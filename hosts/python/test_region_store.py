@@ -8,6 +8,7 @@ import contextlib
 import copy
 import doctest
 import enum
+import errno
 import gc
 import inspect
 import io
@@ -17,6 +18,7 @@ import pickle
 import pydoc
 import shutil
 import signal
+import stat
 import struct
 import subprocess
 import sys
@@ -24,6 +26,7 @@ import tempfile
 import threading
 import time
 import unittest
+import warnings
 import zlib
 from unittest import mock
 
@@ -78,6 +81,23 @@ def place_of(name):
 def mended(data):
     """The bytes with the right sum."""
     return data[:-4] + struct.pack("<I", zlib.crc32(data[:-4]))
+
+
+def forked(work):
+    """A child that does some work: its number. It ends with 0 if the work gives true, and by a signal
+    if it takes too long."""
+    with warnings.catch_warnings():
+        warnings.simplefilter("ignore", DeprecationWarning)  # of forks while there are threads
+        child = os.fork()
+    if child:
+        return child
+    status = 1
+    try:
+        signal.signal(signal.SIGALRM, signal.SIG_DFL)
+        signal.alarm(20)
+        status = 0 if work() else 1
+    finally:
+        os._exit(status)
 
 
 class Recorder(Store):
@@ -580,6 +600,82 @@ class Callers(unittest.TestCase):
         self.assertEqual(set(times), {Report(1, 2, 1, 0)})
 
 
+class Forks(unittest.TestCase):
+    """A child of fork can use its copies of stores."""
+
+    def ends_well(self, work):
+        self.assertEqual(os.waitpid(forked(work), 0)[1], 0)
+
+    def used(self, store):
+        store.put(0, 1, 78)
+        with store:
+            return store.get(0, 1) == 78 and store.audit() and store._lock.acquire(blocking=False)
+
+    def test_another_thread_holds_the_lock(self):
+        stores = [small(), Unequal.small(), copy.copy(small())]
+        held, ended = threading.Event(), threading.Event()
+
+        def hold():
+            with stores[0], stores[1], stores[2]:
+                held.set()
+                ended.wait()
+
+        thread = threading.Thread(target=hold)
+        thread.start()
+        held.wait()
+        try:
+            for store in stores:
+                self.ends_well(lambda: self.used(store))
+                self.ends_well(lambda: self.grandchild(store))
+                self.assertFalse(store._lock.acquire(blocking=False))
+        finally:
+            ended.set()
+            thread.join()
+        self.assertTrue(self.used(stores[0]))
+
+    def grandchild(self, store):
+        child = forked(lambda: self.used(store))
+        return os.waitpid(child, 0)[1] == 0 and self.used(store)
+
+    def test_the_thread_that_forks_holds_the_lock(self):
+        store = small()
+        with store, store:
+            child = forked(lambda: self.left(store))
+            self.assertEqual(os.waitpid(child, 0)[1], 0)
+            self.assertEqual(store.get(0, 1), 77)
+
+    def left(self, store):
+        """Leaves the two blocks: then the lock is free for another thread."""
+        store.__exit__()
+        answers = []
+        thread = threading.Thread(target=lambda: answers.append(store.get(0, 1)))
+        thread.start()
+        thread.join(0.1)
+        waits = thread.is_alive()
+        store.__exit__()
+        thread.join()
+        return waits and answers == [77]
+
+    def test_stores_are_not_kept(self):
+        gc.collect()
+        before = len(region_store._stores)
+        stores = [Store(1) for _ in range(10)]
+        self.assertEqual(len(region_store._stores), before + 10)
+        del stores
+        gc.collect()
+        self.assertEqual(len(region_store._stores), before)
+
+
+class Unequal(Store):
+    """A store that cannot be hashed."""
+
+    __hash__ = None
+
+    @classmethod
+    def small(cls):
+        return cls._loaded(None, small()._saved())
+
+
 class Named(Store):
     """A store with something of its own."""
 
@@ -684,12 +780,35 @@ class Files(unittest.TestCase):
     def test_unwritable(self):
         store = small()
         self.not_saved(store, self.folder / "none" / "x")
-        self.not_saved(store, self.folder)
-        self.assertFalse(os.path.exists(str(self.folder) + ".new"))
-        (self.folder / "x.new").mkdir()
+        (self.folder / "x").mkdir()
         self.not_saved(store, self.folder / "x")
         self.not_saved(store, str(self.folder / "no\0path"))
-        self.assertEqual(self.names(), ["x.new"])
+        self.assertEqual(self.names(), ["x"])
+
+    def new_name(self, n):
+        return self.folder / f"one.store.{os.getpid()}.{n}.new"
+
+    def test_the_order_of_a_save(self):
+        fsync, rename = os.fsync, os.rename
+        steps = []
+
+        def flushed(file):
+            about = os.fstat(file)
+            steps.append(("flushed", about.st_ino, stat.S_ISDIR(about.st_mode) or about.st_size))
+            fsync(file)
+
+        def renamed(old, new):
+            steps.append(("renamed", os.stat(old).st_ino, os.fspath(new)))
+            rename(old, new)
+
+        with mock.patch("os.fsync", flushed), mock.patch("os.rename", renamed):
+            small().save(self.path)
+        about = self.path.stat()
+        self.assertEqual(steps, [("flushed", about.st_ino, about.st_size),
+                                 ("renamed", about.st_ino, str(self.path)),
+                                 ("flushed", self.folder.stat().st_ino, True)])
+        (self.folder / "plain").write_bytes(b"")
+        self.assertEqual(about.st_mode, (self.folder / "plain").stat().st_mode)
 
     def test_a_save_that_fails_on_the_way(self):
         store = small()
@@ -698,21 +817,135 @@ class Files(unittest.TestCase):
         store.put(0, 1, 5)
 
         def fails(*_):
-            raise OSError(28, "No space left on device")
+            raise OSError(errno.EINVAL, "Invalid argument")
 
-        for name in ("fsync", "replace"):
-            kept = getattr(os, name)
-            setattr(os, name, fails)
-            try:
+        for name in ("os.open", "os.fsync", "os.rename"):
+            with mock.patch(name, fails):
                 self.not_saved(store, self.path)
-            finally:
-                setattr(os, name, kept)
             self.assertEqual(self.names(), ["one.store"])
             self.assertEqual(self.path.read_bytes(), before)
-        (self.folder / "one.store.new").write_bytes(b"left")
         store.save(self.path)
-        self.assertEqual(self.names(), ["one.store"])
         self.assertEqual(Store.load(self.path).get(0, 1), 5)
+
+    def save_to_folder(self, store, number):
+        """Saves while the flush of a folder fails by a number."""
+        fsync = os.fsync
+
+        def flushed(file):
+            if stat.S_ISDIR(os.fstat(file).st_mode):
+                raise OSError(number, os.strerror(number))
+            fsync(file)
+
+        with mock.patch("os.fsync", flushed):
+            store.save(self.path)
+
+    def test_a_folder_that_is_not_flushed(self):
+        store = small()
+        self.save_to_folder(store, errno.EINVAL)
+        self.assertEqual(Store.load(self.path).image(), store.image())
+        store.put(0, 1, 5)
+        with self.assertRaises(NotSaved) as caught:
+            self.save_to_folder(store, errno.EIO)
+        self.assertEqual(caught.exception.__cause__.errno, errno.EIO)
+        self.assertEqual(Store.load(self.path).get(0, 1), 5)
+        self.assertEqual(self.names(), ["one.store"])
+
+    def test_an_interrupt_after_the_rename(self):
+        rename = os.rename
+
+        def interrupted(old, new):
+            rename(old, new)
+            self.new_name(0).write_bytes(b"another save's")
+            raise KeyboardInterrupt
+
+        store = small()
+        with mock.patch("os.rename", interrupted), self.assertRaises(KeyboardInterrupt):
+            store.save(self.path)
+        self.assertEqual(Store.load(self.path).image(), store.image())
+        self.assertEqual(self.new_name(0).read_bytes(), b"another save's")
+
+    def test_names_that_are_taken(self):
+        store = small()
+        target = self.folder / "target"
+        target.write_bytes(b"kept")
+        self.new_name(0).write_bytes(b"left")
+        self.new_name(1).mkdir()
+        self.new_name(2).symlink_to(target)
+        self.new_name(3).symlink_to(self.folder / "nowhere")
+        before = self.names()
+        store.save(self.path)
+        self.assertEqual(self.names(), sorted(before + ["one.store"]))
+        self.assertEqual(Store.load(self.path).image(), store.image())
+        for n in range(4, 100):
+            self.new_name(n).write_bytes(b"left")
+        store.put(0, 1, 5)
+        self.not_saved(store, self.path)
+        self.assertEqual(Store.load(self.path).get(0, 1), 77)
+        self.new_name(99).unlink()
+        store.save(self.path)
+        self.assertEqual(Store.load(self.path).get(0, 1), 5)
+        self.assertEqual({self.new_name(n).read_bytes() for n in range(99) if n not in (1, 2, 3)}, {b"left"})
+        self.assertEqual(len(self.names()), 2 + 99)
+        self.assertTrue(self.new_name(2).is_symlink() and self.new_name(3).is_symlink())
+        self.assertEqual(target.read_bytes(), b"kept")
+
+    def test_a_link_at_the_path(self):
+        target = self.folder / "target"
+        target.write_bytes(b"kept")
+        self.path.symlink_to(target)
+        store = small()
+        store.save(self.path)
+        self.assertFalse(self.path.is_symlink())
+        self.assertEqual(Store.load(self.path).image(), store.image())
+        self.assertEqual(target.read_bytes(), b"kept")
+
+    def test_savers_at_once(self):
+        """A process and two threads save three stores to one path: one of them is always there."""
+        stores = [Store(pages) for pages in (1, 2, 256)]
+        images = {store.image() for store in stores}
+        stores[0].save(self.path)
+        until = time.monotonic() + 0.7
+        wrong = []
+
+        def saver(store):
+            try:
+                while time.monotonic() < until:
+                    store.save(self.path)
+            except BaseException as error:
+                wrong.append(error)
+
+        child = forked(lambda: saver(stores[0]) or not wrong)
+        threads = [threading.Thread(target=saver, args=(store,)) for store in stores[1:]]
+        for thread in threads:
+            thread.start()
+        while time.monotonic() < until:
+            self.assertIn(Store.load(self.path).image(), images)
+        for thread in threads:
+            thread.join()
+        self.assertEqual(os.waitpid(child, 0)[1], 0)
+        self.assertEqual(wrong, [])
+        self.assertEqual(self.names(), ["one.store"])
+
+    def test_no_regular_file(self):
+        fifo = self.folder / "fifo"
+        os.mkfifo(fifo)
+        answers = []
+
+        def loaded(path):
+            try:
+                Store.load(path)
+            except NotLoaded as error:
+                answers.append((error.name, type(error.__cause__)))
+
+        for path in (fifo, self.folder, "/dev/null", "/dev/zero"):
+            thread = threading.Thread(target=loaded, args=(path,), daemon=True)
+            thread.start()
+            thread.join(20)
+            self.assertFalse(thread.is_alive(), path)
+            name, cause = answers.pop()
+            self.assertEqual(name, "unreadable")
+            self.assertTrue(issubclass(cause, OSError))
+        self.not_saved(small(), fifo / "x")
 
     def test_unreadable(self):
         for path in (self.folder / "none", self.folder, "", "no\0path", "no\ud800path"):

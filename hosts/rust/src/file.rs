@@ -12,6 +12,7 @@ use std::fmt;
 use std::fs::{self, File};
 use std::io::{self, Read, Write};
 use std::path::{Path, PathBuf};
+use std::process;
 
 /// The bytes in front of the state: magic, version and two lengths.
 const HEAD: usize = MAGIC.len() + 12;
@@ -19,14 +20,22 @@ const HEAD: usize = MAGIC.len() + 12;
 /// The bytes of a sum.
 const SUM: usize = 4;
 
+/// How many names PATH.PID.N.new are tried.
+const NAMES: u32 = 100;
+
+/// The system's number of the error by which a folder cannot be flushed at all, EINVAL.
+const NO_FLUSH: i32 = 22;
+
 impl Store {
     /// Saves the store to a file, all of it or nothing.
     ///
-    /// It is written to PATH.new beside it, brought to the disk, and renamed to PATH; then the folder is brought to the disk. So at every moment PATH is the old file or the whole new one.
+    /// It is written to PATH.PID.N.new beside it (PID the number of the process, N the first from 0 to 99 that is not taken) and flushed; then that file is renamed to PATH, and the folder is flushed. So at every moment there is one whole store at PATH, the old one or a new one, also where several threads or processes save to it at once: each has a file of its own, and the last to rename stays. A link at PATH is replaced by the file, and what it led to is left as it was.
+    ///
+    /// A crash on the way may leave a file PATH.PID.N.new, which may be deleted.
     ///
     /// # Errors
     ///
-    /// [`NotSaved::Unwritable`], with the system's error. PATH.new is removed then, and the old file is as it was, but where only the last step failed: PATH is the new file then, which a loss of power may still undo.
+    /// [`NotSaved::Unwritable`], with the system's error. Then what was at PATH is there as it was, unless all went well but the last step, the flush of the folder: then the new file is there, whole and flushed, but a loss of power may bring the old one back. (That a file system cannot flush folders at all is no failure.) The file beside PATH is removed, if the system lets it be; no other file has been touched.
     ///
     /// # Examples
     ///
@@ -54,7 +63,7 @@ impl Store {
     ///
     /// # Errors
     ///
-    /// The first reason of [`NotLoaded`] that holds, in the order of their numbers (a file may also be found too short once its lengths are known). Nothing was changed then.
+    /// The first reason of [`NotLoaded`] that holds, in the order of their numbers (a file may also be found too short once its lengths are known). Nothing was changed then. What is no regular file (a folder, a pipe, a device) is [`NotLoaded::Unreadable`], and a pipe is not waited for.
     ///
     /// # Panics
     ///
@@ -140,6 +149,11 @@ fn is_heap_length(words: usize) -> bool {
 fn read_whole(path: &Path) -> io::Result<Vec<u8>> {
     let longest = file_length(PAGE * PAGES as usize) as u64;
     let mut bytes = Vec::new();
+    // Asked before it is opened: to open a pipe is to wait for who writes to it.
+    if !fs::metadata(path)?.is_file() {
+        let why = "not a regular file";
+        return Err(io::Error::new(io::ErrorKind::InvalidInput, why));
+    }
     File::open(path)?
         .take(longest + 1)
         .read_to_end(&mut bytes)?;
@@ -147,16 +161,32 @@ fn read_whole(path: &Path) -> io::Result<Vec<u8>> {
 }
 
 fn write_whole(path: &Path, bytes: &[u8]) -> io::Result<()> {
-    let mut name = OsString::from(path);
-    name.push(".new");
-    let new = PathBuf::from(name);
-    let file = File::create(&new)?;
+    let folder = File::open(folder_of(path))?;
+    let (file, new) = create_beside(path)?;
     if let Err(error) = write_and_rename(file, bytes, &new, path) {
         // That the file cannot be removed either is not told: the first error is the one to mend.
         let _ = fs::remove_file(&new);
         return Err(error);
     }
-    File::open(folder_of(path))?.sync_all()
+    match folder.sync_all() {
+        Err(error) if error.raw_os_error() == Some(NO_FLUSH) => Ok(()),
+        flushed => flushed,
+    }
+}
+
+/// A new file beside a path, and its path: PATH.PID.N.new with the first N that is not taken, whatever stands there, a link too.
+fn create_beside(path: &Path) -> io::Result<(File, PathBuf)> {
+    for n in 0..NAMES {
+        let mut name = OsString::from(path);
+        name.push(format!(".{}.{n}.new", process::id()));
+        match File::create_new(&name) {
+            Ok(file) => return Ok((file, PathBuf::from(name))),
+            Err(error) if error.kind() == io::ErrorKind::AlreadyExists => {}
+            Err(error) => return Err(error),
+        }
+    }
+    let why = "each name PATH.PID.N.new is taken";
+    Err(io::Error::new(io::ErrorKind::AlreadyExists, why))
 }
 
 fn write_and_rename(mut file: File, bytes: &[u8], new: &Path, path: &Path) -> io::Result<()> {
@@ -165,11 +195,9 @@ fn write_and_rename(mut file: File, bytes: &[u8], new: &Path, path: &Path) -> io
     fs::rename(new, path)
 }
 
-fn folder_of(path: &Path) -> &Path {
-    match path.parent() {
-        Some(folder) if folder != Path::new("") => folder,
-        _ => Path::new("."),
-    }
+/// The folder that a path lies in, with a dot at its end, so that nothing but a folder can be opened by it.
+fn folder_of(path: &Path) -> PathBuf {
+    path.parent().unwrap_or(path).join(".")
 }
 
 /// What each byte does to a sum.
@@ -237,11 +265,24 @@ file_error!(NotSaved, Unwritable);
 
 #[cfg(test)]
 mod tests {
-    use super::crc32;
+    use super::{crc32, folder_of};
+    use std::path::Path;
 
     #[test]
     fn the_sum_is_that_of_zlib() {
         assert_eq!(crc32(b""), 0);
         assert_eq!(crc32(b"123456789"), 0xCBF4_3926);
+    }
+
+    #[test]
+    fn the_folder_of_a_path() {
+        for (path, folder) in [
+            ("store", "."),
+            ("a/store", "a/."),
+            ("../store", "../."),
+            ("/store", "/."),
+        ] {
+            assert_eq!(folder_of(Path::new(path)).as_os_str(), folder);
+        }
     }
 }

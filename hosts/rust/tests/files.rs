@@ -6,7 +6,12 @@ use common::{folder, memory, patch, place_of_array, place_of_number, rows, HEAD}
 use region_store::{NotLoaded, Store};
 use std::error::Error;
 use std::fs;
-use std::path::Path;
+use std::os::unix::fs::symlink;
+use std::path::{Path, PathBuf};
+use std::process::{self, Command};
+use std::sync::mpsc;
+use std::thread;
+use std::time::{Duration, Instant};
 
 /// A store of one page with an object of region 2 in slot 0: a free pointer, null, and the number 17.
 fn begun() -> Store {
@@ -82,10 +87,90 @@ fn a_save_takes_the_place_of_an_older_file() {
     let folder = folder("older");
     let file = folder.join("store");
     Store::new(9).unwrap().save(&file).unwrap();
-    fs::write(folder.join("store.new"), "left by some other program").unwrap();
     let store = begun();
     store.save(&file).unwrap();
     assert_eq!(memory(&Store::from_file(&file).unwrap()), memory(&store));
+    assert_eq!(fs::read_dir(&folder).unwrap().count(), 1);
+    fs::write(folder.join("plain"), "").unwrap();
+    let permissions = |path: &Path| fs::metadata(path).unwrap().permissions();
+    assert_eq!(permissions(&file), permissions(&folder.join("plain")));
+}
+
+/// The Nth name of the new file where this process saves to `store`.
+fn new_name(folder: &Path, n: u32) -> PathBuf {
+    folder.join(format!("store.{}.{n}.new", process::id()))
+}
+
+#[test]
+fn names_that_are_taken_are_left_as_they_are() {
+    let folder = folder("taken");
+    let file = folder.join("store");
+    let target = folder.join("target");
+    fs::write(&target, "kept").unwrap();
+    fs::write(new_name(&folder, 0), "left").unwrap();
+    fs::create_dir(new_name(&folder, 1)).unwrap();
+    symlink(&target, new_name(&folder, 2)).unwrap();
+    symlink(folder.join("nowhere"), new_name(&folder, 3)).unwrap();
+    let store = begun();
+    store.save(&file).unwrap();
+    assert_eq!(memory(&Store::from_file(&file).unwrap()), memory(&store));
+    assert_eq!(fs::read_dir(&folder).unwrap().count(), 2 + 4);
+
+    // All of them are taken; then the last is free again.
+    for n in 4..100 {
+        fs::write(new_name(&folder, n), "left").unwrap();
+    }
+    let other = Store::new(2).unwrap();
+    assert_eq!(other.save(&file).unwrap_err().number(), 10);
+    assert_eq!(memory(&Store::from_file(&file).unwrap()), memory(&store));
+    fs::remove_file(new_name(&folder, 99)).unwrap();
+    other.save(&file).unwrap();
+    assert_eq!(memory(&Store::from_file(&file).unwrap()), memory(&other));
+    for n in [0].into_iter().chain(4..99) {
+        assert_eq!(fs::read(new_name(&folder, n)).unwrap(), b"left");
+    }
+    assert!(new_name(&folder, 2).is_symlink() && new_name(&folder, 3).is_symlink());
+    assert_eq!(fs::read(&target).unwrap(), b"kept");
+    assert_eq!(fs::read_dir(&folder).unwrap().count(), 2 + 99);
+}
+
+#[test]
+fn a_link_at_the_path_is_replaced() {
+    let folder = folder("link");
+    let file = folder.join("store");
+    let target = folder.join("target");
+    fs::write(&target, "kept").unwrap();
+    symlink(&target, &file).unwrap();
+    let store = begun();
+    store.save(&file).unwrap();
+    assert!(!file.is_symlink());
+    assert_eq!(memory(&Store::from_file(&file).unwrap()), memory(&store));
+    assert_eq!(fs::read(&target).unwrap(), b"kept");
+}
+
+#[test]
+fn of_savers_at_once_one_has_always_saved_a_whole_store() {
+    let folder = folder("savers");
+    let file = folder.join("store");
+    let all: Vec<_> = [1, 256]
+        .map(|pages| memory(&Store::new(pages).unwrap()))
+        .into();
+    Store::new(1).unwrap().save(&file).unwrap();
+    let until = Instant::now() + Duration::from_millis(500);
+    thread::scope(|scope| {
+        for pages in [1, 256] {
+            let file = &file;
+            scope.spawn(move || {
+                let store = Store::new(pages).unwrap();
+                while Instant::now() < until {
+                    store.save(file).unwrap();
+                }
+            });
+        }
+        while Instant::now() < until {
+            assert!(all.contains(&memory(&Store::from_file(&file).unwrap())));
+        }
+    });
     assert_eq!(fs::read_dir(&folder).unwrap().count(), 1);
 }
 
@@ -111,12 +196,35 @@ fn what_cannot_be_written() {
 #[test]
 fn what_cannot_be_read() {
     let folder = folder("unreadable");
-    for path in [folder.join("none"), folder.clone()] {
+    for path in [
+        folder.join("none"),
+        folder.clone(),
+        "/dev/null".into(),
+        "/dev/zero".into(),
+    ] {
         let why = Store::from_file(path).unwrap_err();
         assert!(matches!(why, NotLoaded::Unreadable(_)));
         assert!(why.source().is_some());
         assert_eq!((why.number(), why.name()), (1, "unreadable"));
     }
+}
+
+#[test]
+fn a_pipe_is_not_waited_for() {
+    let fifo = folder("pipe").join("fifo");
+    match Command::new("mkfifo").arg(&fifo).status() {
+        Ok(status) if status.success() => {}
+        _ => return, // there is no such program
+    }
+    let (sender, answers) = mpsc::channel();
+    thread::spawn(move || {
+        sender.send(name(Store::from_file(&fifo).err())).unwrap();
+        let why = begun().save(fifo.join("store")).unwrap_err();
+        sender.send(why.name()).unwrap();
+    });
+    let patience = Duration::from_secs(20);
+    assert_eq!(answers.recv_timeout(patience), Ok("unreadable"));
+    assert_eq!(answers.recv_timeout(patience), Ok("unwritable"));
 }
 
 #[test]
@@ -221,9 +329,4 @@ fn the_sum_and_the_audit_find_what_the_other_does_not() {
     assert_eq!(name(refused(&data, &folder)), "loaded");
     let loaded = Store::from_file(folder.join("store")).unwrap();
     assert_eq!(loaded.get(0, 1), Ok(18));
-}
-
-#[test]
-fn an_endless_file_is_refused() {
-    assert_eq!(name(Store::from_file("/dev/zero").err()), "no_store");
 }
