@@ -3,6 +3,7 @@
 #   numbers: number_name[i], number_what[i], i from 1
 #   arrays: array_name[i], array_width[i], array_length[i], array_what[i]
 #   calls: call_number[i], call_name[i], call_asks[i] (1 or 0), call_arguments[i], call_values[i], call_refusals[i], call_what[i]
+#   arguments: argument_what[name], the same for all calls
 #   values: value_what[call name, value name], of each call that has several
 #   refusals: refusal_name[n], reason[n], by number
 #   files: file_name[n], file_message[n], by number
@@ -33,7 +34,14 @@ $1 == "call" && NF == 8 {
     call_number[calls] = $2; call_name[calls] = $3; call_asks[calls] = $4 == "asks"
     call_arguments[calls] = $5; call_values[calls] = $6; call_refusals[calls] = $7; call_what[calls] = $8
     call_line[calls] = NR
+    note_arguments($5)
     note_values($3, $6)
+    next
+}
+$1 == "argument" && NF == 3 {
+    if (!($2 in argument_wanted)) bad("there is no call with an argument " $2)
+    if ($2 in argument_what) bad("the argument " $2 " has a line already")
+    argument_what[$2] = $3
     next
 }
 $1 == "value" && NF == 4 {
@@ -58,7 +66,23 @@ $1 == "file" && NF == 4 {
 
 END {
     if (failed) exit 1
-    for (i = 1; i <= calls; i++) test_values(i)
+    for (i = 1; i <= calls; i++) {
+        test_arguments(i)
+        test_values(i)
+    }
+}
+
+# The arguments of a call: each name wants a line, one for all calls.
+function note_arguments(arguments,    parts, n, j) {
+    n = split(arguments, parts, " ")
+    for (j = 1; j <= n; j++) argument_wanted[bare(parts[j])] = 1
+}
+
+function test_arguments(i,    parts, n, j) {
+    n = split(call_arguments[i], parts, " ")
+    for (j = 1; j <= n; j++)
+        if (!(bare(parts[j]) in argument_what))
+            bad("the argument " bare(parts[j]) " of " call_name[i] " has no line", call_line[i])
 }
 
 # The values of a call that has several: each wants a line.
@@ -92,6 +116,9 @@ function bare(word) { gsub(/[.?]/, "", word); return word }
 function is_list(word) { return word ~ /[.][.]$/ }
 
 function is_flag(word) { return word ~ /[?]$/ }
+
+# what the only value of a call is: what an argument of that name is, and nothing where there is none
+function only_what(word) { return (bare(word) in argument_what) ? argument_what[bare(word)] : "" }
 
 # all bytes of a state
 function state_bytes(    i, n) {

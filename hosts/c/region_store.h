@@ -23,7 +23,7 @@
 //       return 0;
 //   }
 //
-// Every call gives a reply: the refusal, RS_ACCEPTED or a number of enum rs_refusal, and four values, 0 where there is none. A call that is refused has changed nothing (but rs_make, see there); of several reasons it names the one that comes first in the list at its function. (Of delete_all RS_NO_REGION and RS_PERMANENT are tested together, for one name after the other.)
+// Every call gives a reply: the refusal, RS_ACCEPTED or a number of enum rs_refusal, and four values, 0 where there is none. A call that is refused has changed nothing (but rs_make, see there); of several reasons it names the one that comes first in the list at its function.
 //
 // What the program must keep to:
 //  - A store is used by one caller at a time, also for calls that only ask: the library may write what was there.
@@ -260,6 +260,7 @@ static inline struct rs_reply rs_reply_of(const uint32_t *words)
 // ---- The calls
 
 // Makes a store of the heap: every word becomes 0, every page free, and region 1, the permanent one, lives. What s held before does not matter.
+// heap, words: the heap, and how many words it has, 64 for each page.
 // No values.
 // Refused by RS_HEAP_LENGTH. Then the heap has not changed, but the state has: its arrays are all zeros, whatever they held, and s holds no store. Totals gives zeros, audit 0, and all other calls are refused by RS_WRONG_HEAP.
 // A heap that is NULL counts as one of 0 words.
@@ -288,6 +289,7 @@ static inline struct rs_reply rs_call(struct rs_store *s, uint32_t number, uint3
 }
 
 // Gives the words of an object without pointers: the part of the heap itself, no copy. They change with every put, and mean nothing once the object's region is deleted.
+// slot: a slot of the top frame, from 0 on.
 // Refused by RS_WRONG_HEAP, RS_NO_FRAME, RS_NO_SLOT, RS_NULL_OBJECT, RS_WRONG_WORD.
 static inline struct rs_view rs_view(const struct rs_store *s, uint32_t slot)
 {
@@ -303,7 +305,8 @@ static inline struct rs_view rs_view(const struct rs_store *s, uint32_t slot)
 
 // hosts/tables: begin calls
 // Declares a kind of object by a mark for each word: 0 data, 1 free pointer, 2 same region, 3 up, 4 forever.
-// values[0]: kind.
+// marks, count of them: a mark for each of the 1 to 16 words of an object of the kind.
+// values[0]: kind, a kind's number, from 1 on.
 // Refused by RS_WRONG_HEAP, RS_WRONG_MARKS, RS_KINDS_FULL.
 static inline struct rs_reply rs_declare(struct rs_store *s, const uint32_t *marks, size_t count)
 {
@@ -311,7 +314,7 @@ static inline struct rs_reply rs_declare(struct rs_store *s, const uint32_t *mar
 }
 
 // Makes a region that lies in no other, and gives its name.
-// values[0]: region.
+// values[0]: region, a region's name, a number from 1 on.
 // Refused by RS_WRONG_HEAP, RS_REGIONS_FULL, RS_NAMES_OUT.
 static inline struct rs_reply rs_new_region(struct rs_store *s)
 {
@@ -319,7 +322,8 @@ static inline struct rs_reply rs_new_region(struct rs_store *s)
 }
 
 // Makes a region inside a region, and gives its name.
-// values[0]: region.
+// region: a region's name, a number from 1 on.
+// values[0]: region, a region's name, a number from 1 on.
 // Refused by RS_WRONG_HEAP, RS_NO_REGION, RS_TOO_DEEP, RS_REGIONS_FULL, RS_NAMES_OUT.
 static inline struct rs_reply rs_subregion(struct rs_store *s, uint32_t region)
 {
@@ -327,6 +331,7 @@ static inline struct rs_reply rs_subregion(struct rs_store *s, uint32_t region)
 }
 
 // Puts a frame of 1 to 8 null slots on the stack, and gives how many frames stand.
+// slots: how many slots the frame has, 1 to 8.
 // values[0]: frames.
 // Refused by RS_WRONG_HEAP, RS_SLOT_COUNT, RS_FRAMES_FULL.
 static inline struct rs_reply rs_push(struct rs_store *s, uint32_t slots)
@@ -335,6 +340,7 @@ static inline struct rs_reply rs_push(struct rs_store *s, uint32_t slots)
 }
 
 // Takes the top frame off the stack, and gives how many frames stand.
+// filler: whom the call acts for, 0 to 3; 0 where one program has the store to itself.
 // values[0]: frames.
 // Refused by RS_WRONG_HEAP, RS_NO_FILLER, RS_NO_FRAME.
 static inline struct rs_reply rs_drop(struct rs_store *s, uint32_t filler)
@@ -343,6 +349,9 @@ static inline struct rs_reply rs_drop(struct rs_store *s, uint32_t filler)
 }
 
 // Takes the top frame off the stack, and puts what one of its slots held into a slot of the frame beneath it.
+// slot: a slot of the top frame, from 0 on.
+// beneath: a slot of the frame beneath the top one, from 0 on.
+// filler: whom the call acts for, 0 to 3; 0 where one program has the store to itself.
 // values[0]: frames.
 // Refused by RS_WRONG_HEAP, RS_NO_FILLER, RS_NO_FRAME, RS_NO_SLOT.
 static inline struct rs_reply rs_hand_back(struct rs_store *s, uint32_t slot, uint32_t beneath, uint32_t filler)
@@ -351,6 +360,9 @@ static inline struct rs_reply rs_hand_back(struct rs_store *s, uint32_t slot, ui
 }
 
 // Makes an object of a kind in a region, its words 0 or null, and leads a slot to it.
+// slot: a slot of the top frame, from 0 on.
+// region: a region's name, a number from 1 on.
+// kind: a kind's number, from 1 on.
 // No values.
 // Refused by RS_WRONG_HEAP, RS_NO_FRAME, RS_NO_SLOT, RS_NO_REGION, RS_NO_KIND, RS_NO_PAGE.
 static inline struct rs_reply rs_allocate(struct rs_store *s, uint32_t slot, uint32_t region, uint32_t kind)
@@ -359,6 +371,8 @@ static inline struct rs_reply rs_allocate(struct rs_store *s, uint32_t slot, uin
 }
 
 // Leads a slot to the first object of a region, or makes it null where there is none.
+// slot: a slot of the top frame, from 0 on.
+// region: a region's name, a number from 1 on.
 // No values.
 // Refused by RS_WRONG_HEAP, RS_NO_FRAME, RS_NO_SLOT, RS_NO_REGION.
 static inline struct rs_reply rs_first(struct rs_store *s, uint32_t slot, uint32_t region)
@@ -367,6 +381,8 @@ static inline struct rs_reply rs_first(struct rs_store *s, uint32_t slot, uint32
 }
 
 // Leads a slot to where another one leads.
+// from: the slot of the top frame that is read.
+// to: the slot of the top frame that is led there.
 // No values.
 // Refused by RS_WRONG_HEAP, RS_NO_FRAME, RS_NO_SLOT.
 static inline struct rs_reply rs_copy(struct rs_store *s, uint32_t from, uint32_t to)
@@ -375,6 +391,8 @@ static inline struct rs_reply rs_copy(struct rs_store *s, uint32_t from, uint32_
 }
 
 // Leads a slot to where a slot of the frame beneath leads.
+// beneath: a slot of the frame beneath the top one, from 0 on.
+// slot: a slot of the top frame, from 0 on.
 // No values.
 // Refused by RS_WRONG_HEAP, RS_NO_FRAME, RS_NO_SLOT.
 static inline struct rs_reply rs_fetch(struct rs_store *s, uint32_t beneath, uint32_t slot)
@@ -383,6 +401,7 @@ static inline struct rs_reply rs_fetch(struct rs_store *s, uint32_t beneath, uin
 }
 
 // Makes a slot null.
+// slot: a slot of the top frame, from 0 on.
 // No values.
 // Refused by RS_WRONG_HEAP, RS_NO_FRAME, RS_NO_SLOT.
 static inline struct rs_reply rs_clear(struct rs_store *s, uint32_t slot)
@@ -391,6 +410,9 @@ static inline struct rs_reply rs_clear(struct rs_store *s, uint32_t slot)
 }
 
 // Leads a slot to where a pointer word of an object leads.
+// slot: a slot of the top frame, from 0 on.
+// word: a word of the object, from 0 on.
+// to: the slot of the top frame that is led there.
 // No values.
 // Refused by RS_WRONG_HEAP, RS_NO_FRAME, RS_NO_SLOT, RS_NULL_OBJECT, RS_NO_WORD, RS_WRONG_WORD.
 static inline struct rs_reply rs_load(struct rs_store *s, uint32_t slot, uint32_t word, uint32_t to)
@@ -399,6 +421,10 @@ static inline struct rs_reply rs_load(struct rs_store *s, uint32_t slot, uint32_
 }
 
 // Leads a pointer word of an object to where a slot leads, if the word's mark allows it.
+// slot: a slot of the top frame, from 0 on.
+// word: a word of the object, from 0 on.
+// value: the slot of the top frame that leads where the word is to lead (not a pointer itself); a null slot makes the word null.
+// filler: whom the call acts for, 0 to 3; 0 where one program has the store to itself.
 // No values.
 // Refused by RS_WRONG_HEAP, RS_NO_FILLER, RS_NO_FRAME, RS_NO_SLOT, RS_NULL_OBJECT, RS_NO_WORD, RS_WRONG_WORD, RS_BREAKS_MARK.
 static inline struct rs_reply rs_set_pointer(struct rs_store *s, uint32_t slot, uint32_t word, uint32_t value, uint32_t filler)
@@ -407,6 +433,9 @@ static inline struct rs_reply rs_set_pointer(struct rs_store *s, uint32_t slot, 
 }
 
 // Writes a data word of an object.
+// slot: a slot of the top frame, from 0 on.
+// word: a word of the object, from 0 on.
+// number: what the data word holds, a number of 32 bits.
 // No values.
 // Refused by RS_WRONG_HEAP, RS_NO_FRAME, RS_NO_SLOT, RS_NULL_OBJECT, RS_NO_WORD, RS_WRONG_WORD.
 static inline struct rs_reply rs_put(struct rs_store *s, uint32_t slot, uint32_t word, uint32_t number)
@@ -415,7 +444,9 @@ static inline struct rs_reply rs_put(struct rs_store *s, uint32_t slot, uint32_t
 }
 
 // Reads a data word of an object.
-// values[0]: number.
+// slot: a slot of the top frame, from 0 on.
+// word: a word of the object, from 0 on.
+// values[0]: number, what the data word holds, a number of 32 bits.
 // Refused by RS_WRONG_HEAP, RS_NO_FRAME, RS_NO_SLOT, RS_NULL_OBJECT, RS_NO_WORD, RS_WRONG_WORD.
 static inline struct rs_reply rs_get(struct rs_store *s, uint32_t slot, uint32_t word)
 {
@@ -423,6 +454,8 @@ static inline struct rs_reply rs_get(struct rs_store *s, uint32_t slot, uint32_t
 }
 
 // Tells whether two slots lead to one object, or are both null.
+// slot: a slot of the top frame, from 0 on.
+// other: the other slot, of the top frame too.
 // values[0]: same, 1 or 0.
 // Refused by RS_WRONG_HEAP, RS_NO_FRAME, RS_NO_SLOT.
 static inline struct rs_reply rs_same(struct rs_store *s, uint32_t slot, uint32_t other)
@@ -431,6 +464,7 @@ static inline struct rs_reply rs_same(struct rs_store *s, uint32_t slot, uint32_
 }
 
 // Gives the region and the kind of the object that a slot leads to, 0 and 0 for null.
+// slot: a slot of the top frame, from 0 on.
 // values[0]: region, the name of the object's region, 0 for null.
 // values[1]: kind, the number of its kind, 0 for null.
 // Refused by RS_WRONG_HEAP, RS_NO_FRAME, RS_NO_SLOT.
@@ -440,6 +474,7 @@ static inline struct rs_reply rs_about(struct rs_store *s, uint32_t slot)
 }
 
 // Gives a region's stored count, its outside pointers, its pages, and the live subregions directly below it.
+// region: a region's name, a number from 1 on.
 // values[0]: count, the stored count.
 // values[1]: outside, its outside pointers.
 // values[2]: pages, the pages that it holds.
@@ -470,6 +505,8 @@ static inline struct rs_reply rs_audit(struct rs_store *s)
 }
 
 // Deletes a region, and gives how many pages that frees.
+// region: a region's name, a number from 1 on.
+// filler: whom the call acts for, 0 to 3; 0 where one program has the store to itself.
 // values[0]: pages.
 // Refused by RS_WRONG_HEAP, RS_NO_FILLER, RS_NO_REGION, RS_PERMANENT, RS_SUBREGION_LIVES, RS_OUTSIDE_POINTER.
 static inline struct rs_reply rs_delete(struct rs_store *s, uint32_t region, uint32_t filler)
@@ -477,7 +514,9 @@ static inline struct rs_reply rs_delete(struct rs_store *s, uint32_t region, uin
     return rs_call(s, RS_CALL_DELETE, region, filler, 0, 0, NULL, 0);
 }
 
-// Deletes 1 to 16 regions that may lead into each other, all or none, and gives how many pages that frees. No_region and permanent are tested of one name after the other.
+// Deletes 1 to 16 regions that may lead into each other, all or none, and gives how many pages that frees. Refusals 2 and 3 are tested for one name after the other.
+// regions, count of them: the names of 1 to 16 regions, each once.
+// filler: whom the call acts for, 0 to 3; 0 where one program has the store to itself.
 // values[0]: pages.
 // Refused by RS_WRONG_HEAP, RS_NO_FILLER, RS_WRONG_NAMES, RS_NO_REGION, RS_PERMANENT, RS_SUBREGION_LIVES, RS_OUTSIDE_POINTER.
 static inline struct rs_reply rs_delete_all(struct rs_store *s, const uint32_t *regions, size_t count, uint32_t filler)
@@ -486,6 +525,7 @@ static inline struct rs_reply rs_delete_all(struct rs_store *s, const uint32_t *
 }
 
 // Gives the page of the object that a slot leads to and the word of its header there, 256 and 0 for null.
+// slot: a slot of the top frame, from 0 on.
 // values[0]: page, the page on which the object lies, from 0 on, 256 for null.
 // values[1]: word, the word of that page at which its header stands, from 0 on, 0 for null.
 // Refused by RS_WRONG_HEAP, RS_NO_FRAME, RS_NO_SLOT.

@@ -93,13 +93,27 @@ function refused_by(i,    parts, n, j, s) {
     return s "."
 }
 
-# the values of call i, by name, a line for each; of several, what they are
+# the arguments of call i, by name, a line for each
+function takes(i,    parts, n, j, s) {
+    n = split(call_arguments[i], parts, " ")
+    s = ""
+    for (j = 1; j <= n; j++)
+        s = s "// " bare(parts[j]) (is_list(parts[j]) ? ", count of them: " : ": ") argument_what[bare(parts[j])] ".\n"
+    return s
+}
+
+# a value of call i, one of n, and what it is
+function value_text(i, word, n,    what) {
+    what = n > 1 ? value_what[call_name[i], bare(word)] : only_what(word)
+    return bare(word) (what == "" ? "" : ", " what) (is_flag(word) ? ", 1 or 0" : "")
+}
+
+# the values of call i, by name, a line for each
 function gives(i,    parts, n, j, s) {
     n = split(call_values[i], parts, " ")
     if (n == 0) return "No values."
     s = ""
-    for (j = 1; j <= n; j++)
-        s = s (j > 1 ? "\n// " : "") "values[" j - 1 "]: " bare(parts[j]) (n > 1 ? ", " value_what[call_name[i], bare(parts[j])] : "") (is_flag(parts[j]) ? ", 1 or 0" : "") "."
+    for (j = 1; j <= n; j++) s = s (j > 1 ? "\n// " : "") "values[" j - 1 "]: " value_text(i, parts[j], n) "."
     return s
 }
 
@@ -132,7 +146,7 @@ function named_calls(    i, begun) {
     for (i = 1; i <= calls; i++) {
         if (by_hand(i)) continue
         if (begun++) printf "\n"
-        printf "// %s\n// %s\n// %s\n", call_what[i], gives(i), refused_by(i)
+        printf "// %s\n%s// %s\n// %s\n", call_what[i], takes(i), gives(i), refused_by(i)
         printf "static inline struct rs_reply rs_%s(%s)\n{\n", call_name[i], parameters(i)
         printf "    return rs_call(s, RS_CALL_%s, %s);\n}\n", upper(call_name[i]), passed(i)
     }

@@ -276,14 +276,17 @@ class Refused(Exception):
     """A call was refused, and changed nothing.
 
     call: the name of the call.  number: the refusal's number.  name: its name.  reason: why.
+
+    A library of another version may have the same layout and refuse by a number that is not in
+    REFUSALS. Then the name is 'unknown', and the reason says that it is another version.
     """
 
     def __init__(self, call, number):
         super().__init__(call, number)
         self.call = call
         self.number = number
-        self.name = REFUSALS[number]
-        self.reason = REASONS[number]
+        self.name = REFUSALS.get(number, "unknown")
+        self.reason = REASONS.get(number, "the library is another version than this module")
 
     def __str__(self):
         return f"{self.call}: refused by {self.number}: {self.reason}"
@@ -655,8 +658,9 @@ class Store:
         3 up, 4 forever.
 
         Arguments:
-            marks: any iterable of numbers
-        Gives: kind, a number.
+            marks: a mark for each of the 1 to 16 words of an object of the kind; any iterable of
+                numbers
+        Gives: kind, a kind's number, from 1 on.
 
         Refused by the first of these that holds:
             21 wrong_heap: the heap's length is not the one made, or none was made, since make
@@ -672,7 +676,7 @@ class Store:
     def new_region(self) -> int:
         """Makes a region that lies in no other, and gives its name.
 
-        Gives: region, a number.
+        Gives: region, a region's name, a number from 1 on.
 
         Refused by the first of these that holds:
             21 wrong_heap: the heap's length is not the one made, or none was made, since make
@@ -689,8 +693,8 @@ class Store:
         """Makes a region inside a region, and gives its name.
 
         Arguments:
-            region: a number
-        Gives: region, a number.
+            region: a region's name, a number from 1 on
+        Gives: region, a region's name, a number from 1 on.
 
         Refused by the first of these that holds:
             21 wrong_heap: the heap's length is not the one made, or none was made, since make
@@ -709,7 +713,7 @@ class Store:
         """Puts a frame of 1 to 8 null slots on the stack, and gives how many frames stand.
 
         Arguments:
-            slots: a number
+            slots: how many slots the frame has, 1 to 8
         Gives: frames, a number.
 
         Refused by the first of these that holds:
@@ -727,7 +731,7 @@ class Store:
         """Takes the top frame off the stack, and gives how many frames stand.
 
         Arguments:
-            filler: whom the call acts for, 0 to 3
+            filler: whom the call acts for, 0 to 3; 0 where one program has the store to itself
         Gives: frames, a number.
 
         Refused by the first of these that holds:
@@ -746,9 +750,9 @@ class Store:
         frame beneath it.
 
         Arguments:
-            slot: a number
-            beneath: a number
-            filler: whom the call acts for, 0 to 3
+            slot: a slot of the top frame, from 0 on
+            beneath: a slot of the frame beneath the top one, from 0 on
+            filler: whom the call acts for, 0 to 3; 0 where one program has the store to itself
         Gives: frames, a number.
 
         Refused by the first of these that holds:
@@ -767,9 +771,9 @@ class Store:
         """Makes an object of a kind in a region, its words 0 or null, and leads a slot to it.
 
         Arguments:
-            slot: a number
-            region: a number
-            kind: a number
+            slot: a slot of the top frame, from 0 on
+            region: a region's name, a number from 1 on
+            kind: a kind's number, from 1 on
         Gives: nothing.
 
         Refused by the first of these that holds:
@@ -790,8 +794,8 @@ class Store:
         """Leads a slot to the first object of a region, or makes it null where there is none.
 
         Arguments:
-            slot: a number
-            region: a number
+            slot: a slot of the top frame, from 0 on
+            region: a region's name, a number from 1 on
         Gives: nothing.
 
         Refused by the first of these that holds:
@@ -809,8 +813,8 @@ class Store:
         """Leads a slot to where another one leads.
 
         Arguments:
-            from_: a number
-            to: a number
+            from_: the slot of the top frame that is read
+            to: the slot of the top frame that is led there
         Gives: nothing.
 
         Refused by the first of these that holds:
@@ -827,8 +831,8 @@ class Store:
         """Leads a slot to where a slot of the frame beneath leads.
 
         Arguments:
-            beneath: a number
-            slot: a number
+            beneath: a slot of the frame beneath the top one, from 0 on
+            slot: a slot of the top frame, from 0 on
         Gives: nothing.
 
         Refused by the first of these that holds:
@@ -845,7 +849,7 @@ class Store:
         """Makes a slot null.
 
         Arguments:
-            slot: a number
+            slot: a slot of the top frame, from 0 on
         Gives: nothing.
 
         Refused by the first of these that holds:
@@ -862,9 +866,9 @@ class Store:
         """Leads a slot to where a pointer word of an object leads.
 
         Arguments:
-            slot: a number
-            word: a number
-            to: a number
+            slot: a slot of the top frame, from 0 on
+            word: a word of the object, from 0 on
+            to: the slot of the top frame that is led there
         Gives: nothing.
 
         Refused by the first of these that holds:
@@ -888,10 +892,11 @@ class Store:
         """Leads a pointer word of an object to where a slot leads, if the word's mark allows it.
 
         Arguments:
-            slot: a number
-            word: a number
-            value: a number
-            filler: whom the call acts for, 0 to 3
+            slot: a slot of the top frame, from 0 on
+            word: a word of the object, from 0 on
+            value: the slot of the top frame that leads where the word is to lead (not a pointer
+                itself); a null slot makes the word null
+            filler: whom the call acts for, 0 to 3; 0 where one program has the store to itself
         Gives: nothing.
 
         Refused by the first of these that holds:
@@ -914,9 +919,9 @@ class Store:
         """Writes a data word of an object.
 
         Arguments:
-            slot: a number
-            word: a number
-            number: a number
+            slot: a slot of the top frame, from 0 on
+            word: a word of the object, from 0 on
+            number: what the data word holds, a number of 32 bits
         Gives: nothing.
 
         Refused by the first of these that holds:
@@ -937,9 +942,9 @@ class Store:
         """Reads a data word of an object.
 
         Arguments:
-            slot: a number
-            word: a number
-        Gives: number, a number.
+            slot: a slot of the top frame, from 0 on
+            word: a word of the object, from 0 on
+        Gives: number, what the data word holds, a number of 32 bits.
 
         Refused by the first of these that holds:
             21 wrong_heap: the heap's length is not the one made, or none was made, since make
@@ -960,7 +965,7 @@ class Store:
         """Gives the words of an object without pointers: the part of the heap itself, no copy.
 
         Arguments:
-            slot: a number
+            slot: a slot of the top frame, from 0 on
         Gives: a read-only memoryview of the heap itself, format 'I', no copy.
 
         It is the heap, not the object: a later put shows in it. Once the object's region is deleted
@@ -983,8 +988,8 @@ class Store:
         """Tells whether two slots lead to one object, or are both null.
 
         Arguments:
-            slot: a number
-            other: a number
+            slot: a slot of the top frame, from 0 on
+            other: the other slot, of the top frame too
         Gives: same, True or False.
 
         Refused by the first of these that holds:
@@ -1002,7 +1007,7 @@ class Store:
         """Gives the region and the kind of the object that a slot leads to, 0 and 0 for null.
 
         Arguments:
-            slot: a number
+            slot: a slot of the top frame, from 0 on
         Gives: About(region, kind).
 
         Refused by the first of these that holds:
@@ -1021,7 +1026,7 @@ class Store:
         directly below it.
 
         Arguments:
-            region: a number
+            region: a region's name, a number from 1 on
         Gives: Report(count, outside, pages, subregions).
 
         Refused by the first of these that holds:
@@ -1058,8 +1063,8 @@ class Store:
         """Deletes a region, and gives how many pages that frees.
 
         Arguments:
-            region: a number
-            filler: whom the call acts for, 0 to 3
+            region: a region's name, a number from 1 on
+            filler: whom the call acts for, 0 to 3; 0 where one program has the store to itself
         Gives: pages, a number.
 
         Refused by the first of these that holds:
@@ -1080,11 +1085,11 @@ class Store:
 
     def delete_all(self, regions: Iterable[int], *, filler: int = 0) -> int:
         """Deletes 1 to 16 regions that may lead into each other, all or none, and gives how many
-        pages that frees. No_region and permanent are tested of one name after the other.
+        pages that frees. Refusals 2 and 3 are tested for one name after the other.
 
         Arguments:
-            regions: any iterable of numbers
-            filler: whom the call acts for, 0 to 3
+            regions: the names of 1 to 16 regions, each once; any iterable of numbers
+            filler: whom the call acts for, 0 to 3; 0 where one program has the store to itself
         Gives: pages, a number.
 
         Refused by the first of these that holds:
@@ -1109,7 +1114,7 @@ class Store:
         and 0 for null.
 
         Arguments:
-            slot: a number
+            slot: a slot of the top frame, from 0 on
         Gives: Locate(page, word).
 
         Refused by the first of these that holds:

@@ -150,21 +150,25 @@ function write_arguments(i,    parts, n, j, what) {
     if (n == 0) return
     print "        Arguments:"
     for (j = 1; j <= n; j++) {
-        what = is_list(parts[j]) ? "any iterable of numbers" : "a number"
-        if (parts[j] == "filler") what = "whom the call acts for, 0 to 3"
-        print "            " argument(parts[j]) ": " what
+        what = argument_what[bare(parts[j])] (is_list(parts[j]) ? "; any iterable of numbers" : "")
+        fold("            " argument(parts[j]) ": ", "                ", what)
     }
 }
 
-function write_given(i,    parts, n, j, s) {
+function write_given(i,    parts, n, j, s, what) {
     n = split(call_values[i], parts, " ")
     if (n == 0) s = "nothing"
     else if (n > 1) {
         s = camel(call_name[i]) "("
         for (j = 1; j <= n; j++) s = s parts[j] (j < n ? ", " : ")")
     } else if (is_list(parts[1])) s = "a read-only memoryview of the heap itself, format 'I', no copy"
-    else s = bare(parts[1]) (is_flag(parts[1]) ? ", True or False" : ", a number")
-    print "        Gives: " s "."
+    else {
+        what = only_what(parts[1])
+        if (is_flag(parts[1])) what = what (what == "" ? "" : ", ") "True or False"
+        else if (what == "") what = "a number"
+        s = bare(parts[1]) ", " what
+    }
+    fold("        Gives: ", "            ", s ".")
 }
 
 # What becomes of a part of the heap.

@@ -221,7 +221,8 @@ class Calls(unittest.TestCase):
                 self.assertGreaterEqual(found, at, (call.name, number))
                 at = found + 1
             for word in call.arguments:
-                self.assertIn(word.rstrip("."), text)
+                self.assertRegex(text, rf" {word.rstrip('.')}_?: \w+")
+            self.assertNotIn(": a number", text)
             if not call.refusals:
                 self.assertIn("Never refused", text)
 
@@ -234,6 +235,7 @@ class Calls(unittest.TestCase):
                 for field in values._fields:
                     self.assertRegex(values.__doc__, rf"\n{field}: \w+")
         self.assertIn("\noutside: its outside pointers\n", Report.__doc__)
+        self.assertIn("Gives: kind, a kind's number, from 1 on.", Store.declare.__doc__)
 
 
 class Refusals(unittest.TestCase):
@@ -265,6 +267,12 @@ class Refusals(unittest.TestCase):
         self.of_names()
         self.of_call()
         self.assertEqual(set(REFUSALS) - self.seen, {21})
+
+    def test_one_that_is_not_in_the_table(self):
+        error = Refused("get", 99)
+        self.assertEqual((error.call, error.number, error.name), ("get", 99, "unknown"))
+        self.assertIn("the library is another version", error.reason)
+        self.assertEqual(str(error), f"get: refused by 99: {error.reason}")
 
     def of_make(self):
         for pages in (0, 257, 258, -1, -(10**30), 2**26, 2**32 + 1, 10**30):
@@ -705,7 +713,7 @@ class Copies(unittest.TestCase):
             Store(1).title = "none"
 
     def test_exceptions(self):
-        for error in (Refused("get", 9), NotLoaded("x", 2), NotSaved("x", 10)):
+        for error in (Refused("get", 9), Refused("get", 99), NotLoaded("x", 2), NotSaved("x", 10)):
             other = pickle.loads(pickle.dumps(error))
             self.assertEqual((str(other), vars(other)), (str(error), vars(error)))
 

@@ -329,14 +329,31 @@ function value_struct(i,    v, n, k) {
     print ""
 }
 
+# The arguments of a call, and what they are.
+function taken(i,    a, n, k) {
+    n = words(call_arguments[i], a)
+    if (!n) return
+    print "    ///"
+    print "    /// # Arguments"
+    print "    ///"
+    for (k = 1; k <= n; k++) print "    /// - `" bare(a[k]) "`, " argument_what[bare(a[k])]
+}
+
+# The only value of a call, and what it is, where its name has a line.
+function only(word,    what) {
+    what = only_what(word)
+    return "`" bare(word) "`" (what == "" ? "" : ", " what)
+}
+
 function told(i,    r, n, k, t) {
     print "    /// " call_what[i]
     print "    ///"
     t = given(i)
     if (t == "()") t = "it has no value"
-    else if (words(call_values[i], r) == 1) t = "its value is `" bare(call_values[i]) "`"
+    else if (words(call_values[i], r) == 1) t = "its value is " only(call_values[i])
     else t = "its values are those of [`" t "`]"
     print "    /// Call " call_number[i] "; " t (call_refusals[i] == "" ? ", and it is never refused." : ".")
+    taken(i)
     n = words(call_refusals[i], r)
     if (n) {
         print "    ///"

@@ -46,7 +46,7 @@ replied (q ∷ qs) (a ∷ given) = pick (isCall (q .number)) (numbersOf a ∷ re
 unfoldable pub OneState : Type 0
 OneState = (s t : State) (memory : List (List ℕ)) → HoldsState s memory → HoldsState t memory → s ≡ t
 
--- every state that memory holds has arrays of the lengths that demands 2 and 3 ask of audited memory
+-- every state that memory holds has arrays of the lengths that demand 3 and AuditedAnswers ask of audited memory
 unfoldable pub AllSized : Type 0
 AllSized = (s : State) (memory : List (List ℕ)) (heap : List ℕ) → HoldsState s memory → Sized (store s heap)
 

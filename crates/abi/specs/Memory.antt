@@ -27,7 +27,7 @@ arraysOf s =
 abbrev pub sizes : List (ℕ × ℕ)
 sizes = (4, 5) ∷ (1, 32) ∷ (4, 256) ∷ (1, 16) ∷ (1, 256) ∷ (4, 64) ∷ (1, 64) ∷ (1, 64) ∷ (4, 256) ∷ (2, 64) ∷ (4, 64) ∷ (1, 256) ∷ (1, 256) ∷ []
 
--- the layout as hosts ask for it: its version, raised where the arrays change, and these numbers
+-- the layout as hosts ask for it: its version, raised where the arrays or what they mean change, and these numbers
 abbrev pub layout : List ℕ
 layout = 1 ∷ joined (λ p. p .0 ∷ p .1 ∷ []) sizes
 
@@ -36,7 +36,7 @@ abbrev pub limit : ℕ → ℕ
 limit zero = 1
 limit (suc n) = 256 * limit n
 
--- each array has as many elements as its size says, each of no more bytes (that elements are no narrower, the types of the functions' arguments say)
+-- each array has as many elements as its size says, each of no more bytes (that they are no narrower, and come in this order, a reader sees in the functions' arguments)
 abbrev pub OfSizes : List (ℕ × ℕ) → List (List ℕ) → Type 0
 OfSizes [] [] = Unit {0}
 OfSizes [] (l ∷ ls) = ⊥
@@ -60,7 +60,7 @@ abbrev pub Called : ℕ → ℕ → ℕ → ℕ → ℕ → List ℕ → List (L
 Called number a b c d list before heap after heap' reply =
     (s : State) × (t : State) × (r : Reply) × HoldsState s before × HoldsState t after × (reply ≡ replyOf r) × Dispatched number a b c d list (store s heap) r (store t heap')
 
--- view, on the state that the memory holds: the refusal, and the part as its place and length in the heap; the place is where the slot leads, and 0 with an empty part (document 01, View)
+-- view, on the state that the memory holds: the refusal, and the part as its place and length in the heap; the place is that of the object's word 0, which is the pointer in the slot, and 0 with an empty part (document 01, View)
 abbrev pub Viewed : ℕ → List (List ℕ) → List ℕ → List ℕ → Type 0
 Viewed n memory heap out =
     (s : State) × (refusal : ℕ) × (place : ℕ) × (count : ℕ) × HoldsState s memory × (out ≡ refusal ∷ place ∷ count ∷ [])

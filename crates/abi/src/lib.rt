@@ -1,5 +1,5 @@
 // The store for hosts in other languages: functions that C can call, on memory that the host lends. The state is lent as thirteen arrays, its numbers first, then its arrays in the order of its parts.
-// Pointers are aligned and not null, also where a length is 0, lengths are true, and no two buffers overlap: that the host answers for. Whatever the memory holds, the calls are safe, end and have their outcomes; what these say of memory that the audit rejects is more than document 01 fixes.
+// Pointers are aligned and not null, also where a length is 0, lengths are true, and no two buffers overlap: that the host answers for. Whatever the memory holds, the calls are safe, end and have their outcomes; what the outcomes say of memory that the audit rejects is more than document 01 fixes.
 use frames::Frames;
 use kinds::Kinds;
 use pages::Pages;

@@ -61,7 +61,11 @@ pub struct Locate {
 impl Store {
     /// Declares a kind of object by a mark for each word: 0 data, 1 free pointer, 2 same region, 3 up, 4 forever.
     ///
-    /// Call 2; its value is `kind`.
+    /// Call 2; its value is `kind`, a kind's number, from 1 on.
+    ///
+    /// # Arguments
+    ///
+    /// - `marks`, a mark for each of the 1 to 16 words of an object of the kind
     ///
     /// # Errors
     ///
@@ -89,7 +93,7 @@ impl Store {
 
     /// Makes a region that lies in no other, and gives its name.
     ///
-    /// Call 3; its value is `region`.
+    /// Call 3; its value is `region`, a region's name, a number from 1 on.
     ///
     /// # Errors
     ///
@@ -116,7 +120,11 @@ impl Store {
 
     /// Makes a region inside a region, and gives its name.
     ///
-    /// Call 4; its value is `region`.
+    /// Call 4; its value is `region`, a region's name, a number from 1 on.
+    ///
+    /// # Arguments
+    ///
+    /// - `region`, a region's name, a number from 1 on
     ///
     /// # Errors
     ///
@@ -151,6 +159,10 @@ impl Store {
     ///
     /// Call 5; its value is `frames`.
     ///
+    /// # Arguments
+    ///
+    /// - `slots`, how many slots the frame has, 1 to 8
+    ///
     /// # Errors
     ///
     /// The first of these whose reason holds:
@@ -178,6 +190,10 @@ impl Store {
     ///
     /// Call 6; its value is `frames`.
     ///
+    /// # Arguments
+    ///
+    /// - `filler`, whom the call acts for, 0 to 3; 0 where one program has the store to itself
+    ///
     /// # Errors
     ///
     /// The first of these whose reason holds:
@@ -192,6 +208,12 @@ impl Store {
     /// Takes the top frame off the stack, and puts what one of its slots held into a slot of the frame beneath it.
     ///
     /// Call 7; its value is `frames`.
+    ///
+    /// # Arguments
+    ///
+    /// - `slot`, a slot of the top frame, from 0 on
+    /// - `beneath`, a slot of the frame beneath the top one, from 0 on
+    /// - `filler`, whom the call acts for, 0 to 3; 0 where one program has the store to itself
     ///
     /// # Errors
     ///
@@ -208,6 +230,12 @@ impl Store {
     /// Makes an object of a kind in a region, its words 0 or null, and leads a slot to it.
     ///
     /// Call 8; it has no value.
+    ///
+    /// # Arguments
+    ///
+    /// - `slot`, a slot of the top frame, from 0 on
+    /// - `region`, a region's name, a number from 1 on
+    /// - `kind`, a kind's number, from 1 on
     ///
     /// # Errors
     ///
@@ -241,6 +269,11 @@ impl Store {
     ///
     /// Call 9; it has no value.
     ///
+    /// # Arguments
+    ///
+    /// - `slot`, a slot of the top frame, from 0 on
+    /// - `region`, a region's name, a number from 1 on
+    ///
     /// # Errors
     ///
     /// The first of these whose reason holds:
@@ -257,6 +290,11 @@ impl Store {
     ///
     /// Call 10; it has no value.
     ///
+    /// # Arguments
+    ///
+    /// - `from`, the slot of the top frame that is read
+    /// - `to`, the slot of the top frame that is led there
+    ///
     /// # Errors
     ///
     /// The first of these whose reason holds:
@@ -271,6 +309,11 @@ impl Store {
     /// Leads a slot to where a slot of the frame beneath leads.
     ///
     /// Call 11; it has no value.
+    ///
+    /// # Arguments
+    ///
+    /// - `beneath`, a slot of the frame beneath the top one, from 0 on
+    /// - `slot`, a slot of the top frame, from 0 on
     ///
     /// # Errors
     ///
@@ -287,6 +330,10 @@ impl Store {
     ///
     /// Call 12; it has no value.
     ///
+    /// # Arguments
+    ///
+    /// - `slot`, a slot of the top frame, from 0 on
+    ///
     /// # Errors
     ///
     /// The first of these whose reason holds:
@@ -301,6 +348,12 @@ impl Store {
     /// Leads a slot to where a pointer word of an object leads.
     ///
     /// Call 13; it has no value.
+    ///
+    /// # Arguments
+    ///
+    /// - `slot`, a slot of the top frame, from 0 on
+    /// - `word`, a word of the object, from 0 on
+    /// - `to`, the slot of the top frame that is led there
     ///
     /// # Errors
     ///
@@ -319,6 +372,13 @@ impl Store {
     /// Leads a pointer word of an object to where a slot leads, if the word's mark allows it.
     ///
     /// Call 14; it has no value.
+    ///
+    /// # Arguments
+    ///
+    /// - `slot`, a slot of the top frame, from 0 on
+    /// - `word`, a word of the object, from 0 on
+    /// - `value`, the slot of the top frame that leads where the word is to lead (not a pointer itself); a null slot makes the word null
+    /// - `filler`, whom the call acts for, 0 to 3; 0 where one program has the store to itself
     ///
     /// # Errors
     ///
@@ -363,6 +423,12 @@ impl Store {
     ///
     /// Call 15; it has no value.
     ///
+    /// # Arguments
+    ///
+    /// - `slot`, a slot of the top frame, from 0 on
+    /// - `word`, a word of the object, from 0 on
+    /// - `number`, what the data word holds, a number of 32 bits
+    ///
     /// # Errors
     ///
     /// The first of these whose reason holds:
@@ -395,7 +461,12 @@ impl Store {
 
     /// Reads a data word of an object.
     ///
-    /// Call 16; its value is `number`.
+    /// Call 16; its value is `number`, what the data word holds, a number of 32 bits.
+    ///
+    /// # Arguments
+    ///
+    /// - `slot`, a slot of the top frame, from 0 on
+    /// - `word`, a word of the object, from 0 on
     ///
     /// # Errors
     ///
@@ -414,6 +485,10 @@ impl Store {
     /// Gives the words of an object without pointers: the part of the heap itself, no copy.
     ///
     /// Call 17; its value is `part`.
+    ///
+    /// # Arguments
+    ///
+    /// - `slot`, a slot of the top frame, from 0 on
     ///
     /// # Errors
     ///
@@ -464,6 +539,11 @@ impl Store {
     ///
     /// Call 18; its value is `same`.
     ///
+    /// # Arguments
+    ///
+    /// - `slot`, a slot of the top frame, from 0 on
+    /// - `other`, the other slot, of the top frame too
+    ///
     /// # Errors
     ///
     /// The first of these whose reason holds:
@@ -478,6 +558,10 @@ impl Store {
     /// Gives the region and the kind of the object that a slot leads to, 0 and 0 for null.
     ///
     /// Call 19; its values are those of [`About`].
+    ///
+    /// # Arguments
+    ///
+    /// - `slot`, a slot of the top frame, from 0 on
     ///
     /// # Errors
     ///
@@ -496,6 +580,10 @@ impl Store {
     /// Gives a region's stored count, its outside pointers, its pages, and the live subregions directly below it.
     ///
     /// Call 20; its values are those of [`Report`].
+    ///
+    /// # Arguments
+    ///
+    /// - `region`, a region's name, a number from 1 on
     ///
     /// # Errors
     ///
@@ -575,6 +663,11 @@ impl Store {
     ///
     /// Call 23; its value is `pages`.
     ///
+    /// # Arguments
+    ///
+    /// - `region`, a region's name, a number from 1 on
+    /// - `filler`, whom the call acts for, 0 to 3; 0 where one program has the store to itself
+    ///
     /// # Errors
     ///
     /// The first of these whose reason holds:
@@ -606,9 +699,14 @@ impl Store {
         Ok(v[1])
     }
 
-    /// Deletes 1 to 16 regions that may lead into each other, all or none, and gives how many pages that frees. No_region and permanent are tested of one name after the other.
+    /// Deletes 1 to 16 regions that may lead into each other, all or none, and gives how many pages that frees. Refusals 2 and 3 are tested for one name after the other.
     ///
     /// Call 24; its value is `pages`.
+    ///
+    /// # Arguments
+    ///
+    /// - `regions`, the names of 1 to 16 regions, each once
+    /// - `filler`, whom the call acts for, 0 to 3; 0 where one program has the store to itself
     ///
     /// # Errors
     ///
@@ -642,6 +740,10 @@ impl Store {
     /// Gives the page of the object that a slot leads to and the word of its header there, 256 and 0 for null.
     ///
     /// Call 25; its values are those of [`Locate`].
+    ///
+    /// # Arguments
+    ///
+    /// - `slot`, a slot of the top frame, from 0 on
     ///
     /// # Errors
     ///

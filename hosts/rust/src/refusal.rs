@@ -68,9 +68,24 @@ pub(crate) fn accepted(reply: [u32; 5]) -> Result<[u32; 5], Refusal> {
     }
 }
 
-/// A refusal of the library. The layout was compared, so it is one of the table's.
+/// A refusal of the library.
+///
+/// The layout was compared, but a library of another version may have the same one and refuse by a number that this crate does not know. Then this panics, and says that the library is another version.
 pub(crate) fn known(number: u32) -> Refusal {
     Refusal::from_number(number).unwrap_or_else(|| {
-        panic!("the library refuses by {number}, which this crate does not know")
+        panic!(
+            "the library region_store that was linked is another version than this crate: it refuses by {number}, which this crate does not know; build both from one version (`hosts/build`)"
+        )
     })
+}
+
+#[cfg(test)]
+mod tests {
+    use super::*;
+
+    #[test]
+    #[should_panic(expected = "is another version than this crate: it refuses by 99")]
+    fn a_number_that_is_not_known() {
+        let _ = accepted([99, 0, 0, 0, 0]);
+    }
 }
