@@ -8,7 +8,7 @@
 //   the state, member by member; the heap
 //   4 bytes   CRC-32, zlib's, of all bytes before it
 //
-// rs_file_load tests the sum and has the memory audited, for each finds what the other cannot: the sum finds bytes that changed on the way, but a file may hold a sum that is right and memory that is no store; the audit finds that, but data words and entries not in use are not its business, so it would not miss a changed one. Neither proves who wrote a file.
+// rs_file_load tests the sum and has the memory audited, for each finds what the other cannot: the sum finds bytes that changed on the way, but a file may hold a sum that is right and memory that is no store; the audit finds that, but data words and entries not in use are not its business, so a changed one it would not notice. Neither proves who wrote a file.
 //
 // With a compiler told to keep to the C standard (-std=c99) this header comes before all others, or _POSIX_C_SOURCE is defined as 200809L.
 #ifndef REGION_STORE_FILE_H
