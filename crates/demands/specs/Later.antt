@@ -189,7 +189,7 @@ Lowest l j = (among j l ≡ true) × ((i : ℕ) → i < j → among i l ≡ fals
 
 -- where objects lie, in a store and by what its calls told
 pub record Layout (h : History) (S : Store) : Type 0 where
-  -- if the next call makes an object and is accepted, its header stands on a page that its region held, or at the start of the lowest of the free ones. (On which of its region's pages, `pageFor` says)
+  -- if the next call makes an object and is accepted, its header stands on a page that its region held, or at the start of the lowest of the free ones. (By itself this would admit a store that fills an older page of the region, and one that takes a free page while the newest has room; that allocate does neither, its outcome says by `pageFor`)
   pub takes : (s r k : ℕ) (a : Answer) (T : Store) → Outcome (allocate s r k) S a T → a .refusal ≡ 0
       → (p : ℕ) × (slotAfter h T s ≡ p + 1) × ((among r (holders h (p / 64)) ≡ true) ⊎ (Lowest (h .free) (p / 64) × (p % 64 ≡ 0)))
   -- if the next call locates a slot that the top frame has, it answers 256 and 0 where the slot is null, else the page and the word of the place where the live object's header stands
