@@ -1,10 +1,10 @@
 use mathlib.Core.Path.{_≡_, _∙_, sym, ap}
 use Prim.Native.Nat.{min}
 use borrow.Author.Needs.{needs}
 use Rattle.regions.specs.Regions.{levelIn}
 use Rattle.regions.specs.Laws.Entries.{level-in}
-use Rattle.regions.proofs.level_from.Statement.{statement}
-use Rattle.regions.proofs.level_from.Tie as tie
+use Rattle.climbs.proofs.level_from.Statement.{statement}
+use Rattle.climbs.proofs.level_from.Tie as tie
 
 returns : tie.Need-returns
 unfolding levelIn

@@ -6,14 +6,14 @@ use borrow.Author.Needs.{needs}
 use borrow.Fn.Kinds.{In}
 use borrow.Fn.PlainCycle.{Measures, is, falls, and}
 use Rattle.model.specs.Model.{climb}
 use Rattle.regions.specs.Laws.Climb.{meets, meets-end, meets-here, meets-on}
-use Rattle.regions.proofs.is_above.Reads as is-above
-use Rattle.regions.proofs.is_above.Kinds as kinds
-use Rattle.regions.proofs.+is_above.Lts-is_above as lts
+use Rattle.climbs.proofs.is_above.Reads as is-above
+use Rattle.climbs.proofs.is_above.Kinds as kinds
+use Rattle.climbs.proofs.+is_above.Lts-is_above as lts
 use Rattle.regions.proofs.name_of.Reads as name-of
-use Rattle.regions.proofs.up_from.Reads as up-from
-use Rattle.regions.proofs.+is_above.{statement}
-use Rattle.regions.proofs.+is_above.Tie.{close}
+use Rattle.climbs.proofs.up_from.Reads as up-from
+use Rattle.climbs.proofs.+is_above.{statement}
+use Rattle.climbs.proofs.+is_above.Tie.{close}
 
 abbrev μ-is-above : Measures 1 kinds.ps ℕ
 μ-is-above κs a = a .1 .1 .0

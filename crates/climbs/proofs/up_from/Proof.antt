@@ -1,9 +1,9 @@
 use mathlib.Core.Path.{_∙_, sym}
 use borrow.Author.Needs.{needs}
 use Rattle.regions.specs.Regions.{upIn}
 use Rattle.regions.specs.Laws.Entries.{up-in}
-use Rattle.regions.proofs.up_from.Statement.{statement}
-use Rattle.regions.proofs.up_from.Tie as tie
+use Rattle.climbs.proofs.up_from.Statement.{statement}
+use Rattle.climbs.proofs.up_from.Tie as tie
 
 returns : tie.Need-returns
 unfolding upIn
