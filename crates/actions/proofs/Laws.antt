@@ -19,7 +19,7 @@ use Rattle.outcomes.specs.Outcome.{Outcome, MakeOutcome, Answered, Accepted, an
 use Rattle.store.specs.Dispatch.{isCall, decoded, DispatchedBy, Dispatched}
 use Rattle.script.specs.declared.Line.{Line}
 use Rattle.script.specs.Script.{fillers}
-use Rattle.actions.specs.Laws.Fronts.{front-same}
+use Rattle.numbers.specs.Laws.Fronts.{front-same}
 use Rattle.actions.specs.Acts.{fillerPlace, lineCall, printed, Replied, CalledBy, Called, Acts, wordsAfter}
 
 part-within : (n v : ℕ) (l : List ℕ) → length (take n (drop v l)) ≤ length l

@@ -5,7 +5,7 @@ use state::Reply;
 use state::State;
 ghost use mathlib.Core.Path.{_≡_};
 ghost use mathlib.Core.Bool.{true};
-ghost use Prim.Native.Nat.{_*_, _<_, _≤_, min};
+ghost use Prim.Native.Nat.{_*_, _<_, _≤_};
 ghost use lib.Dec.{eqb};
 ghost use lib.ListN.{length, getD, take};
 ghost use Rattle.lists.specs.Lists.{pick};
@@ -20,12 +20,6 @@ const VIEW: u32 = 17;
 
 // The call whose filler is the first number: its arguments are its list.
 const DELETE_ALL: u32 = 24;
-
-pub fn least(x: usize, y: usize) -> usize
-    ensures { λ r. ⌜ r ≡ min x y ⌝ }
-{
-    if x < y { x } else { y }
-}
 
 // Where the filler goes among the four numbers of a call with so many arguments; 4 for a call that names none.
 fn filler_place(call: u32, count: u32) -> u32
@@ -107,9 +101,9 @@ pub fn acted(s: State, memory: &mut [u32], words: usize, l: Line) -> Done
 {
     if l.call == PAGES {
         let a = l.args;
-        let w = least(words_of(a[0]), memory.len());
+        let w = numbers::least(words_of(a[0]), memory.len());
         return store::make(&mut memory[0..w]);
     }
-    let w = least(words, memory.len());
+    let w = numbers::least(words, memory.len());
     called(s, &mut memory[0..w], l)
 }

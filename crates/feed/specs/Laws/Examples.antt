@@ -19,7 +19,8 @@ use Rattle.script.specs.Script.{bytes, blank as isBlank, inWord, tokens, value,
 use Rattle.lines.specs.Lines.{numeral, decimal, column, lineOf, badOf, summaryOf}
 use Rattle.guide.specs.Guide.{help, whyOf}
 use Rattle.actions.specs.Acts.{fillerPlace, callsOf, printed, Replied, Called, Makes, Acts}
-use Rattle.feed.specs.Scripted.{ended, left, more, isCalled, tallied, answer, Scripted, start, scripted, Prints}
+use Rattle.tally.specs.Answers.{more, isCalled, tallied, answer}
+use Rattle.feed.specs.Scripted.{ended, left, Scripted, start, scripted, Prints}
 
 -- ---- lines
 

@@ -1,7 +1,7 @@
 use borrow.Author.Needs.{needs}
 use borrow.Author.Tests.{not-true, not-false}
-use Rattle.feed.proofs.refuses.Statement.{statement}
-use Rattle.feed.proofs.refuses.Tie as tie
+use Rattle.tally.proofs.refuses.Statement.{statement}
+use Rattle.tally.proofs.refuses.Tie as tie
 
 returns : tie.Need-returns
 returns c = rw (← c .before .is-called .ensures) (simp (not-true (c .before .is-called .result) (c .if1 .taken)))

@@ -1,7 +1,7 @@
 use borrow.Author.Needs.{needs}
 use borrow.Author.Tests.{eq-eqb, ne-eqb}
-use Rattle.feed.proofs.stage_after.Statement.{statement}
-use Rattle.feed.proofs.stage_after.Tie as tie
+use Rattle.tally.proofs.stage_after.Statement.{statement}
+use Rattle.tally.proofs.stage_after.Tie as tie
 
 returns : tie.Need-returns
 returns c = simp (ne-eqb _ _ (c .if1 .taken))

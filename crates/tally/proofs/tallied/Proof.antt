@@ -1,7 +1,7 @@
 use borrow.Author.Needs.{needs}
-use Rattle.feed.specs.Scripted.{tallied}
-use Rattle.feed.proofs.tallied.Statement.{statement}
-use Rattle.feed.proofs.tallied.Tie as tie
+use Rattle.tally.specs.Answers.{tallied}
+use Rattle.tally.proofs.tallied.Statement.{statement}
+use Rattle.tally.proofs.tallied.Tie as tie
 
 returns : tie.Need-returns
 unfolding tallied

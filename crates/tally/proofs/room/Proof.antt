@@ -2,9 +2,9 @@ use Prim.Native.Nat.{_+_}
 use mathlib.Core.Path.{sym}
 use borrow.Author.Tests.{lt-leb}
 use native.Mathlib.Omega.{arith}
-use Rattle.feed.proofs.Laws.{room-here}
-use Rattle.feed.proofs.room.Statement.{statement}
-use Rattle.feed.proofs.room.Tie as tie
+use Rattle.tally.proofs.Laws.{room-here}
+use Rattle.tally.proofs.room.Statement.{statement}
+use Rattle.tally.proofs.room.Tie as tie
 
 returns : tie.Need-returns
 returns c = sym (lt-leb (c .before .args .used + 1024) (c .before .args .n) (omega arith))

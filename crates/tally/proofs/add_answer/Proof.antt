@@ -1,9 +1,9 @@
 use borrow.Author.Needs.{needs}
 use borrow.Author.Tests.{eq-eqb, ne-eqb}
-use Rattle.feed.specs.Scripted.{answer}
-use Rattle.feed.proofs.Laws.{added-none}
-use Rattle.feed.proofs.add_answer.Statement.{statement}
-use Rattle.feed.proofs.add_answer.Tie as tie
+use Rattle.tally.specs.Answers.{answer}
+use Rattle.tally.proofs.Laws.{added-none}
+use Rattle.tally.proofs.add_answer.Statement.{statement}
+use Rattle.tally.proofs.add_answer.Tie as tie
 
 returns : tie.Need-returns
 unfolding answer

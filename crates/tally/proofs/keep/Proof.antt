@@ -1,9 +1,9 @@
 use Prim.Native.Nat.{_-_}
 use native.Mathlib.Omega.{arith}
 use borrow.Author.Needs.{needs}
-use Rattle.feed.proofs.Laws.{keeps}
-use Rattle.feed.proofs.keep.Statement.{statement}
-use Rattle.feed.proofs.keep.Tie as tie
+use Rattle.tally.proofs.Laws.{keeps}
+use Rattle.tally.proofs.keep.Statement.{statement}
+use Rattle.tally.proofs.keep.Tie as tie
 
 returns : tie.Need-returns
 returns c h =

@@ -1,8 +1,8 @@
 use borrow.Author.Needs.{needs}
 use borrow.Author.Tests.{le-leb, lt-leb}
-use Rattle.feed.specs.Scripted.{isCalled}
-use Rattle.feed.proofs.is_called.Statement.{statement}
-use Rattle.feed.proofs.is_called.Tie as tie
+use Rattle.tally.specs.Answers.{isCalled}
+use Rattle.tally.proofs.is_called.Statement.{statement}
+use Rattle.tally.proofs.is_called.Tie as tie
 
 returns : tie.Need-returns
 unfolding isCalled

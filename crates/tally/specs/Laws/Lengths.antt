@@ -17,8 +17,8 @@ use Rattle.lines.specs.Lines.{lineOf, badOf, summaryOf}
 use Rattle.lines.specs.Laws.Lengths.{line-length, bad-length, summary-length}
 use Rattle.guide.specs.Guide.{help, whyOf}
 use Rattle.guide.specs.Laws.Lengths.{help-length, why-length}
-use Rattle.feed.specs.declared.Tally.{Tally}
-use Rattle.feed.specs.Scripted.{kept, more, callCount, answer}
+use Rattle.tally.specs.declared.Tally.{Tally}
+use Rattle.tally.specs.Answers.{kept, more, callCount, answer}
 
 either-short : (t : Bool) (x y : List ℕ) → length x ≤ 1024 → length y ≤ 1024 → length (pick t x y) ≤ 1024
 either-short true x y h k = h

@@ -1,6 +1,6 @@
 use borrow.Author.Needs.{needs}
-use Rattle.feed.proofs.more.Statement.{statement}
-use Rattle.feed.proofs.more.Tie as tie
+use Rattle.tally.proofs.more.Statement.{statement}
+use Rattle.tally.proofs.more.Tie as tie
 
 returns : tie.Need-returns
 returns c = rw (← c .wrapping-add-u64 .ensures) (simp (c .before .if1 .taken))
