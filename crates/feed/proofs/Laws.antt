@@ -13,7 +13,8 @@ use Rattle.outcomes.specs.Outcome.{MakeOutcome, store, blank}
 use Rattle.script.specs.declared.Line.{Line}
 use Rattle.script.specs.Script.{heard}
 use Rattle.lines.specs.Lines.{Added}
-use Rattle.actions.specs.Acts.{Acts, wordsAfter}
+use Rattle.numbers.specs.Numbers.{wordsAfter}
+use Rattle.actions.specs.Acts.{Acts}
 use Rattle.tally.specs.declared.Tally.{Tally}
 use Rattle.tally.specs.Answers.{kept, tallied, answer}
 use Rattle.tally.specs.Laws.Lengths.{answer-length}

@@ -73,7 +73,7 @@ pub fn feed(
             let d = actions::acted(t, memory, words, l);
             used = tally::add_answer(out, used, c, l.call, a[0], d.reply);
             c = tally::tallied(c, l.call, d.reply.refusal);
-            words = actions::words_after(l.call, a[0], d.reply.refusal, words);
+            words = numbers::words_after(l.call, a[0], d.reply.refusal, words);
             t = d.state;
             held = 0;
         }

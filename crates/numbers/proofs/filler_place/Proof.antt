@@ -1,8 +1,8 @@
 use borrow.Author.Needs.{needs}
 use borrow.Author.Tests.{eq-eqb, ne-eqb}
-use Rattle.actions.specs.Acts.{fillerPlace}
-use Rattle.actions.proofs.filler_place.Statement.{statement}
-use Rattle.actions.proofs.filler_place.Tie as tie
+use Rattle.numbers.specs.Numbers.{fillerPlace}
+use Rattle.numbers.proofs.filler_place.Statement.{statement}
+use Rattle.numbers.proofs.filler_place.Tie as tie
 
 returns : tie.Need-returns
 unfolding fillerPlace

@@ -1,8 +1,8 @@
 use borrow.Author.Needs.{needs}
 use borrow.Author.Tests.{eq-eqb, ne-eqb}
-use Rattle.actions.specs.Acts.{wordsAfter}
-use Rattle.actions.proofs.words_after.Statement.{statement}
-use Rattle.actions.proofs.words_after.Tie as tie
+use Rattle.numbers.specs.Numbers.{wordsAfter}
+use Rattle.numbers.proofs.words_after.Statement.{statement}
+use Rattle.numbers.proofs.words_after.Tie as tie
 
 returns : tie.Need-returns
 unfolding wordsAfter
