@@ -7,7 +7,7 @@ ghost use Rattle.lists.specs.Lists.{pick};
 ghost use Rattle.script.specs.Script.{blank, ofClass, front, tokens, value, placed, named, least, most, fillers, callOf, takes, allowed, unmarked};
 ghost use Rattle.script.specs.Found.{NextWord, LineAt};
 
-// A line: `call` is 0 where nothing stands on it, 1 for pages, a call's number from 2 on, the number of a word that is no call, and 255 where it is none of these.
+// A line: `call` is one of the numbers below.
 // The filler is the one that `as` names, 0 where none is named. The arguments are the first `count` of `args`, and the others are 0.
 pub struct Line {
     pub call: u32,
@@ -16,10 +16,13 @@ pub struct Line {
     pub args: [u32; 64],
 }
 
-// The number of the last call.
+// What a line says: nothing; `pages`; a call, up to the last one; a word that is no call; or none of these. No call will have the last four numbers.
+pub const NOTHING: u32 = 0;
+
+pub const PAGES: u32 = 1;
+
 pub const LAST_CALL: u32 = 25;
 
-// The words that are no calls, and the mark for a bad line: no call will have these numbers.
 pub const SUMMARY: u32 = 252;
 
 pub const HELP: u32 = 253;

@@ -18,8 +18,10 @@ use Rattle.store.specs.Dispatch.{lastCall as lastNumber, decoded}
 use Rattle.script.specs.Script.{bytes, blank as isBlank, inWord, tokens, value, lastCall, names, wordNames, least, most, fillers, placed, named, callOf, takes, allowed, zeros, line, bad, given, called, acting, said, scanned, mark, unmarked, fitting, heard}
 use Rattle.lines.specs.Lines.{numeral, decimal, column, lineOf, badOf, summaryOf}
 use Rattle.guide.specs.Guide.{help, whyOf}
-use Rattle.actions.specs.Acts.{fillerPlace, callsOf, printed, Replied, Called, Makes, Acts}
-use Rattle.feed.specs.Scripted.{ended, left, more, isCalled, tallied, answer, Scripted, start, scripted, Prints}
+use Rattle.numbers.specs.Numbers.{fillerPlace}
+use Rattle.actions.specs.Acts.{callsOf, printed, Replied, Called, Makes, Acts}
+use Rattle.tally.specs.Answers.{more, isCalled, tallied, answer}
+use Rattle.feed.specs.Scripted.{ended, left, Scripted, start, scripted, Prints}
 
 -- ---- lines
 
