@@ -49,6 +49,23 @@ pub fn store_byte(s: &mut [u8], i: usize, v: u8)
     }
 }
 
+// Where a part from `at` on begins in a slice of `len` elements: at its end, where `at` is past that.
+pub fn part_start(at: usize, len: usize) -> usize
+    ensures { λ r. ⌜ r ≡ min at len ⌝ }
+{
+    if len <= at { len } else { at }
+}
+
+// How many elements it has, n at most: those that there are.
+pub fn part_len(at: usize, n: usize, len: usize) -> usize
+    ensures { λ r. ⌜ r ≡ min n (len - at) ⌝ }
+{
+    if len <= at {
+        return 0;
+    }
+    if len - at <= n { len - at } else { n }
+}
+
 // At most n elements from `at` on: those that there are.
 pub fn part(s: &[u32], at: usize, n: usize) -> &[u32]
     ensures { λ r. ⌜ now r ≡ take n (drop at (now (s .entry))) ⌝ }
@@ -56,10 +73,7 @@ pub fn part(s: &[u32], at: usize, n: usize) -> &[u32]
     if s.len() <= at {
         return &s[0..0];
     }
-    if s.len() - at <= n {
-        return &s[at..];
-    }
-    let e = at + n;
+    let e = at + part_len(at, n, s.len());
     &s[at..e]
 }
 
