@@ -13,8 +13,10 @@ FNR == 1 || /^$/ { name = "" }
 
 /^ *--/ { next }
 
-/^(abbrev |unfoldable )?pub [A-Za-z0-9]+ : / {
-    sub(/^(abbrev |unfoldable )?pub /, "")
+/ : (List )?Row *(--.*)?$/ && !/^(abbrev |unfoldable )?(pub )?[A-Za-z0-9]+ : (List )?Row$/ { fail("this line cannot be read: " $0) }
+
+/^(abbrev |unfoldable )?(pub )?[A-Za-z0-9]+ : / {
+    sub(/^(abbrev |unfoldable )?(pub )?/, "")
     name = $1
     if (part == "calls" && name != "numbered" && name != "calls") {
         name = ""
@@ -258,7 +260,7 @@ function play(name,    words, cs, ps, skip, i, run, got, n) {
         if (i > size[ps]) fail("the row " name " has no line '" got "'")
         if (i > 0 && got != must("line", item[ps, i])) fail("the row " name " has '" text[item[ps, i]] "' and the store answers '" got "'")
     }
-    close(run)
+    if (close(run)) fail("the row " name ": the program that plays it ends with an error")
     if (n != skip + size[ps]) fail("the row " name " has " size[ps] " lines after the first " skip ", and the store answers " n)
     played[name]++
     plays++

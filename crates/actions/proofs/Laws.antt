@@ -20,7 +20,7 @@ use Rattle.store.specs.Dispatch.{isCall, decoded, DispatchedBy, Dispatched}
 use Rattle.script.specs.declared.Line.{Line}
 use Rattle.script.specs.Script.{fillers}
 use Rattle.numbers.specs.Numbers.{fillerPlace, wordsAfter}
-use Rattle.numbers.specs.Laws.Fronts.{front-same}
+use Rattle.lists.specs.Laws.Parts.{front-same}
 use Rattle.actions.specs.Acts.{lineCall, printed, Replied, CalledBy, Called, Acts}
 
 part-within : (n v : ℕ) (l : List ℕ) → length (take n (drop v l)) ≤ length l

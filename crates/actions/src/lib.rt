@@ -62,9 +62,9 @@ pub fn acted(s: State, memory: &mut [u32], words: usize, l: Line) -> Done
 {
     if l.call == PAGES {
         let a = l.args;
-        let w = numbers::least(numbers::words_of(a[0]), memory.len());
+        let w = cells::within(numbers::words_of(a[0]), memory.len());
         return store::make(&mut memory[0..w]);
     }
-    let w = numbers::least(words, memory.len());
+    let w = cells::within(words, memory.len());
     called(s, &mut memory[0..w], l)
 }

@@ -142,7 +142,7 @@ pub fn view<'a>(s: State, heap: &'a [u32], slot: u32) -> &'a [u32]
     if g != 0 {
         return &heap[0..0];
     }
-    let a = cells::part_start(v as usize, n);
+    let a = cells::within(v as usize, n);
     let b = a + cells::part_len(v as usize, size as usize, n);
     &heap[a..b]
 }

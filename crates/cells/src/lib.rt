@@ -49,14 +49,14 @@ pub fn store_byte(s: &mut [u8], i: usize, v: u8)
     }
 }
 
-// Where a part from `at` on begins in a slice of `len` elements: at its end, where `at` is past that.
-pub fn part_start(at: usize, len: usize) -> usize
-    ensures { λ r. ⌜ r ≡ min at len ⌝ }
+// x, and n at most: where x is a place, and n a length, a place in the slice, or its end.
+pub fn within(x: usize, n: usize) -> usize
+    ensures { λ r. ⌜ r ≡ min x n ⌝ }
 {
-    if len <= at { len } else { at }
+    if n <= x { n } else { x }
 }
 
-// How many elements it has, n at most: those that there are.
+// How many elements there are from `at` on in a slice of `len`, n at most.
 pub fn part_len(at: usize, n: usize, len: usize) -> usize
     ensures { λ r. ⌜ r ≡ min n (len - at) ⌝ }
 {

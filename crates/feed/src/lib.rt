@@ -67,7 +67,7 @@ pub fn feed(
         at = end;
         if end < chunk.len() {
             at = end + 1;
-            let k = numbers::least(held, line.len());
+            let k = cells::within(held, line.len());
             let l = scanner::heard(&line[0..k], c.first, c.stage);
             let a = l.args;
             let d = actions::acted(t, memory, words, l);

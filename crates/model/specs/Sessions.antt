@@ -4,7 +4,7 @@ use mathlib.Core.Bool.{true, false}
 use mathlib.Core.List.{List, [], _∷_, _++_}
 use Prim.Native.Nat.{ℕ, suc, _*_, _/_}
 use lib.Dec.{eqb}
-use lib.ListN.{length, replicate, drop}
+use lib.ListN.{length, getD, replicate, drop}
 use Rattle.lists.specs.Lists.{pick}
 use Rattle.model.specs.Model.{Answer, Call, declare, newRegion, subregion, push, dropFrame, allocate, clear, setPointer, report, totals, delete}
 use Rattle.model.specs.Calls.{run, makes, fresh}
@@ -13,9 +13,9 @@ use Rattle.model.specs.Calls.{run, makes, fresh}
 abbrev pub line : ℕ → ℕ → ℕ → ℕ → ℕ → ℕ → List ℕ
 line n e a b c d = n ∷ e ∷ a ∷ b ∷ c ∷ d ∷ []
 
--- what a line has of an answer: the refusal and the values; of view, which answers a part and no value, the length of the part in the place of the first (document 02, card 6)
+-- what a line has of an answer: the refusal and the values; of view, which answers a part, the length of that part in the place of the first value, as scripts print it
 abbrev pub shown : Answer → List ℕ
-shown a = a .refusal ∷ pick (eqb (length (a .part)) 0) (a .values) (length (a .part) ∷ 0 ∷ 0 ∷ 0 ∷ [])
+shown a = a .refusal ∷ pick (eqb (length (a .part)) 0) (getD (a .values) 0 0) (length (a .part)) ∷ drop 1 (a .values)
 
 abbrev pub lines : ℕ → List Answer → List (List ℕ)
 lines n [] = []

@@ -1,19 +1,13 @@
-// Numbers that go with a scanned line: where its filler stands among those of its call, and how many words of a memory are the heap after it; and the smaller of two.
+// Numbers that go with a scanned line: where its filler stands among those of its call, and how many words of a memory are the heap after it.
 use script::PAGES;
 ghost use mathlib.Core.Path.{_≡_};
-ghost use Prim.Native.Nat.{_*_, min};
+ghost use Prim.Native.Nat.{_*_};
 ghost use lib.Dec.{eqb};
 ghost use Rattle.lists.specs.Lists.{pick};
 ghost use Rattle.numbers.specs.Numbers.{fillerPlace, wordsAfter};
 
 // The call whose filler is the first number: its arguments are its list.
 const DELETE_ALL: u32 = 24;
-
-pub fn least(x: usize, y: usize) -> usize
-    ensures { λ r. ⌜ r ≡ min x y ⌝ }
-{
-    if x < y { x } else { y }
-}
 
 // Where the filler goes among the four numbers of a call with so many arguments; 4 for a call that names none.
 pub fn filler_place(call: u32, count: u32) -> u32

@@ -98,13 +98,13 @@ abbrev pub firstWord : ℕ
 firstWord = 252
 
 abbrev pub summaryWord : ℕ
-summaryWord = 252
+summaryWord = firstWord
 
 abbrev pub helpWord : ℕ
-helpWord = 253
+helpWord = firstWord + 1
 
 abbrev pub whyWord : ℕ
-whyWord = 254
+whyWord = firstWord + 2
 
 abbrev pub noCall : ℕ
 noCall = 255

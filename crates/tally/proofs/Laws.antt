@@ -10,7 +10,7 @@ use lib.Seq.{take-append-add, length-take-le}
 use borrow.Author.Tests.{leb-true, leb-false, le-leb, lt-leb}
 use Rattle.lists.specs.Laws.Tests.{by-test}
 use Rattle.lines.specs.Lines.{Added}
-use Rattle.numbers.specs.Laws.Fronts.{front-same}
+use Rattle.lists.specs.Laws.Parts.{front-same}
 use Rattle.tally.specs.Answers.{kept}
 
 -- ---- room

@@ -122,8 +122,8 @@ pub fn add_answer(out: &mut [u8], at: usize, c: Tally, call: u32, a: u32, r: Rep
 pub fn keep(line: &mut [u8], held: usize, s: &[u8]) -> usize
     ensures { λ r. ⌜ (length (now (line .entry)) ≡ 4100 → (r ≤ 4100) × (take r (now (line .exit)) ≡ kept (take held (now (line .entry)) ++ now (s .entry)))) ⌝ }
 {
-    let from = numbers::least(held, KEPT);
-    let n = numbers::least(s.len(), KEPT - from);
+    let from = cells::within(held, KEPT);
+    let n = cells::within(s.len(), KEPT - from);
     lines::add(line, from, &s[0..n])
 }
 

@@ -22,7 +22,7 @@ returns-2 c =
     let z = u .before .before .before .before .before in
     let h = z .before .before in
     let o = h .before in
-    view-effect _ _ _ _ (o .before .top-slot .ensures) (o .object-of .ensures) _ _ _ (h .kind-of .ensures) (z .size-of .ensures) (u .unseen .ensures) (w .before .if1 .left) _ _ (w .part-start .ensures) (c .before .part-len .ensures)
+    view-effect _ _ _ _ (o .before .top-slot .ensures) (o .object-of .ensures) _ _ _ (h .kind-of .ensures) (z .size-of .ensures) (u .unseen .ensures) (w .before .if1 .left) _ _ (w .within .ensures) (c .before .part-len .ensures)
 
 -- what the type says of the marks
 marks-long : (s : tie.Start) → length (s .args .s .kinds .marks) ≡ 256

@@ -1,6 +1,6 @@
--- A part of a list by its place and its length, as far as the list goes.
+-- The front of a list, and a part of it by its place and its length, as far as the list goes.
 -- Assumes nothing.
-use mathlib.Core.Path.{_≡_, sym, _∙_}
+use mathlib.Core.Path.{_≡_, sym, ap, _∙_}
 use mathlib.Core.List.{List}
 use Prim.Native.Nat.{ℕ, _+_, _-_, min}
 use native.Mathlib.Omega.{arith}
@@ -10,22 +10,25 @@ use lib.Seq.{take-all}
 use borrow.Author.Tests.{leb-true, leb-false}
 use Rattle.lists.specs.Laws.Tests.{by-test}
 
-module _ {A : Type 0} (l : List A) (at k : ℕ) where
-  -- n is how many of k elements there are from `at` on
-  pub part-taken : (n : ℕ) → n ≡ min k (length l - at) → take n (drop at l) ≡ take k (drop at l)
-  part-taken n e =
-      by-test (leb k (length l - at))
-      (λ q. let f : n ≡ k = omega (arith, e, leb-true k (length l - at) q) in rw f)
-      (λ q.
-      let h = leb-false k (length l - at) q in
-      take-all n (drop at l) (omega (arith, e, h, length-drop at l)) ∙ sym (take-all k (drop at l) (omega (arith, h, length-drop at l))))
+module _ {A : Type 0} where
+  -- n is how many of k elements there are
+  pub front-same : (k : ℕ) (l : List A) (n : ℕ) → n ≡ min k (length l) → take n l ≡ take k l
+  front-same k l n e =
+      by-test (leb k (length l))
+      (λ q. let f : n ≡ k = omega (arith, e, leb-true k (length l) q) in rw f)
+      (λ q. let h = leb-false k (length l) q in take-all n l (omega (arith, e, h)) ∙ sym (take-all k l (omega (arith, h))))
 
-  drop-within : (a : ℕ) → a ≡ min at (length l) → drop a l ≡ drop at l
-  drop-within a e =
-      by-test (leb at (length l))
-      (λ q. let f : a ≡ at = omega (arith, e, leb-true at (length l) q) in rw f)
-      (λ q. let h = leb-false at (length l) q in drop-of-length-le l {i = a} (omega (arith, e, h)) ∙ sym (drop-of-length-le l {i = at} (omega (arith, h))))
+  module _ (l : List A) (at k : ℕ) where
+    -- the same from `at` on
+    pub part-taken : (n : ℕ) → n ≡ min k (length l - at) → take n (drop at l) ≡ take k (drop at l)
+    part-taken n e = front-same k (drop at l) n (e ∙ ap (min k) (sym (length-drop at l)))
 
-  -- and a where they begin: the end of the list where `at` is further
-  pub part-cut : (a n : ℕ) → a ≡ min at (length l) → n ≡ min k (length l - at) → take (a + n - a) (drop a l) ≡ take k (drop at l)
-  part-cut a n begins counted = let e : a + n - a ≡ n = omega arith in rw (e, drop-within a begins) (part-taken n counted)
+    drop-within : (a : ℕ) → a ≡ min at (length l) → drop a l ≡ drop at l
+    drop-within a e =
+        by-test (leb at (length l))
+        (λ q. let f : a ≡ at = omega (arith, e, leb-true at (length l) q) in rw f)
+        (λ q. let h = leb-false at (length l) q in drop-of-length-le l {i = a} (omega (arith, e, h)) ∙ sym (drop-of-length-le l {i = at} (omega (arith, h))))
+
+    -- and a is where they begin: the end of the list, where `at` is further
+    pub part-cut : (a n : ℕ) → a ≡ min at (length l) → n ≡ min k (length l - at) → take (a + n - a) (drop a l) ≡ take k (drop at l)
+    part-cut a n begins counted = let e : a + n - a ≡ n = omega arith in rw (e, drop-within a begins) (part-taken n counted)

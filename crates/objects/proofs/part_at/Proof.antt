@@ -10,7 +10,7 @@ returns c =
     let l = c .before in
     let s = l .before in
     let a = s .before .before .args in
-    part-cut (a .heap .now) (a .at) 17 _ _ (s .part-start .ensures) (l .part-len .ensures)
+    part-cut (a .heap .now) (a .at) 17 _ _ (s .within .ensures) (l .part-len .ensures)
 
 pub part-at-spec : {M : Type 1} → statement M
 part-at-spec = tie.close (tie.spec (λ c κs. search needs) (λ c κs. search needs) (λ c. search needs) (λ c. search needs) (λ c. search needs) (λ c. search needs) (λ c. search needs) returns)

@@ -9,7 +9,7 @@ returns : tie.Need-returns
 returns c h =
     let a = c .before .before in
     let n = a .before .before .before in
-    keeps _ _ _ (n .before .before .before .before .args .held) _ (n .least2 .result - 0) _ h (n .before .least .ensures) (omega (arith, n .least2 .ensures)) (a .add .ensures)
+    keeps _ _ _ (n .before .before .before .before .args .held) _ (n .within2 .result - 0) _ h (n .before .within .ensures) (omega (arith, n .within2 .ensures)) (a .add .ensures)
 
 pub keep-spec : {M : Type 1} → statement M
 keep-spec =
