@@ -19,8 +19,9 @@ use Rattle.outcomes.specs.Outcome.{Outcome, MakeOutcome, Answered, Accepted, an
 use Rattle.store.specs.Dispatch.{isCall, decoded, DispatchedBy, Dispatched}
 use Rattle.script.specs.declared.Line.{Line}
 use Rattle.script.specs.Script.{fillers}
-use Rattle.actions.specs.Laws.Fronts.{front-same}
-use Rattle.actions.specs.Acts.{fillerPlace, lineCall, printed, Replied, CalledBy, Called, Acts, wordsAfter}
+use Rattle.numbers.specs.Numbers.{fillerPlace, wordsAfter}
+use Rattle.lists.specs.Laws.Parts.{front-same}
+use Rattle.actions.specs.Acts.{lineCall, printed, Replied, CalledBy, Called, Acts}
 
 part-within : (n v : ℕ) (l : List ℕ) → length (take n (drop v l)) ≤ length l
 part-within n v l = omega (arith, length-take n (drop v l), length-drop v l)

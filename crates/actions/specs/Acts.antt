@@ -13,11 +13,7 @@ use Rattle.outcomes.specs.Store.{Store}
 use Rattle.outcomes.specs.Outcome.{Outcome, MakeOutcome, store}
 use Rattle.store.specs.Dispatch.{isCall, decoded}
 use Rattle.script.specs.declared.Line.{Line}
-use Rattle.script.specs.Script.{fillers}
-
--- where the filler goes among the four numbers of call n with k arguments: after these; for delete_all, whose arguments are its list, it is the first; 4, which is none of them, where the call names no filler (document 02, card 5)
-unfoldable pub fillerPlace : ℕ → ℕ → ℕ
-fillerPlace n k = pick (eqb (getD fillers n 0) 1) (pick (eqb n 24) 0 k) 4
+use Rattle.numbers.specs.Numbers.{fillerPlace}
 
 -- number k that goes with a scanned line's call: the line's argument there, or its filler
 abbrev pub numberAt : Line → ℕ → ℕ
@@ -64,7 +60,3 @@ ActsBy false l S r T = Called l S r T
 -- what a line does to the store S: it leaves T, and r is the reply, which is printed where the line is a call
 unfoldable pub Acts : Line → Store → Reply → Store → Type 0
 Acts l S r T = ActsBy (eqb (l .call) 1) l S r T
-
--- how many words of the memory are the heap after a line that says n, its first argument a, and is answered by f, where w were
-unfoldable pub wordsAfter : ℕ → ℕ → ℕ → ℕ → ℕ
-wordsAfter n a f w = pick (eqb n 1) (pick (eqb f 0) (64 * a) 0) w

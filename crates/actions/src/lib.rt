@@ -1,48 +1,20 @@
 // What a scanned line of a script does to the store that the script drives: a call, `pages`, or nothing. No function here reads input or writes output.
 use script::Line;
+use script::PAGES;
 use state::Done;
 use state::Reply;
 use state::State;
 ghost use mathlib.Core.Path.{_≡_};
 ghost use mathlib.Core.Bool.{true};
-ghost use Prim.Native.Nat.{_*_, _<_, _≤_, min};
-ghost use lib.Dec.{eqb};
+ghost use Prim.Native.Nat.{_<_, _≤_};
 ghost use lib.ListN.{length, getD, take};
-ghost use Rattle.lists.specs.Lists.{pick};
 ghost use Rattle.model.specs.Model.{view};
 ghost use Rattle.outcomes.specs.Outcome.{store};
-ghost use Rattle.actions.specs.Acts.{fillerPlace, Replied, Called, Acts, wordsAfter};
-
-const PAGES: u32 = 1;
+ghost use Rattle.numbers.specs.Numbers.{wordsAfter};
+ghost use Rattle.actions.specs.Acts.{Replied, Called, Acts};
 
 // The call whose reply gets the length of a part.
 const VIEW: u32 = 17;
-
-// The call whose filler is the first number: its arguments are its list.
-const DELETE_ALL: u32 = 24;
-
-pub fn least(x: usize, y: usize) -> usize
-    ensures { λ r. ⌜ r ≡ min x y ⌝ }
-{
-    if x < y { x } else { y }
-}
-
-// Where the filler goes among the four numbers of a call with so many arguments; 4 for a call that names none.
-fn filler_place(call: u32, count: u32) -> u32
-    ensures { λ r. ⌜ r ≡ fillerPlace call count ⌝ }
-{
-    if script::names_filler(call) != 1 {
-        return 4;
-    }
-    if call == DELETE_ALL { 0 } else { count }
-}
-
-// Number k that goes with a call: the argument there, or the filler.
-fn number_at(argument: u32, place: u32, filler: u32, k: u32) -> u32
-    ensures { λ r. ⌜ r ≡ pick (eqb k place) filler argument ⌝ }
-{
-    if k == place { filler } else { argument }
-}
 
 // View, with the length of its part as first value.
 fn viewed(s: State, heap: &[u32], slot: u32) -> Done
@@ -71,34 +43,17 @@ fn called(s: State, heap: &mut [u32], l: Line) -> Done
     if l.call == VIEW {
         return viewed(s, heap, a[0]);
     }
-    let p = filler_place(l.call, l.count);
+    let p = numbers::filler_place(l.call, l.count);
     store::call(
         s,
         heap,
         l.call,
-        number_at(a[0], p, f, 0),
-        number_at(a[1], p, f, 1),
-        number_at(a[2], p, f, 2),
-        number_at(a[3], p, f, 3),
+        numbers::number_at(a[0], p, f, 0),
+        numbers::number_at(a[1], p, f, 1),
+        numbers::number_at(a[2], p, f, 2),
+        numbers::number_at(a[3], p, f, 3),
         cells::part(&a, 0, l.count as usize),
     )
-}
-
-// The words of n pages.
-fn words_of(n: u32) -> usize
-    ensures { λ r. ⌜ r ≡ 64 * n ⌝ }
-{
-    64 * (n as usize)
-}
-
-// How many words are the heap after a line with that call, the pages that it asks for, and the refusal.
-pub fn words_after(call: u32, pages: u32, refusal: u32, words: usize) -> usize
-    ensures { λ r. ⌜ r ≡ wordsAfter call pages refusal words ⌝ }
-{
-    if call != PAGES {
-        return words;
-    }
-    if refusal == 0 { words_of(pages) } else { 0 }
 }
 
 // What a line does, where the first `words` words of the memory are the heap: `pages` makes a store of more or fewer of them. The memory has 257 pages, so that every `pages` line finds its words.
@@ -107,9 +62,9 @@ pub fn acted(s: State, memory: &mut [u32], words: usize, l: Line) -> Done
 {
     if l.call == PAGES {
         let a = l.args;
-        let w = least(words_of(a[0]), memory.len());
+        let w = cells::within(numbers::words_of(a[0]), memory.len());
         return store::make(&mut memory[0..w]);
     }
-    let w = least(words, memory.len());
+    let w = cells::within(words, memory.len());
     called(s, &mut memory[0..w], l)
 }

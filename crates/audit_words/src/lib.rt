@@ -29,7 +29,7 @@ fn word_holds<'a>(
     if !audit_heap::stands_at(heads, x - 1) {
         return false;
     }
-    regions::allows(names, parents, levels, m, own, pages::owner_of(owners, x))
+    climbs::allows(names, parents, levels, m, own, pages::owner_of(owners, x))
 }
 
 // The same of an object's first n words.

@@ -88,7 +88,7 @@ fn breaks<'a>(
     if x == 0 {
         return false;
     }
-    if regions::allows(names, parents, levels, m, h, to) {
+    if climbs::allows(names, parents, levels, m, h, to) {
         return false;
     }
     true

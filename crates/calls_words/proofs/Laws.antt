@@ -2,9 +2,10 @@
 use mathlib.Core.Path.{_≡_, refl, sym, ap, _∙_}
 use mathlib.Core.Bool.{not}
 use mathlib.Core.List.{List, [], _∷_}
-use Prim.Native.Nat.{ℕ}
+use Prim.Native.Nat.{ℕ, _+_, _-_, min}
 use lib.Dec.{eqb}
 use lib.ListN.{length, take, drop}
+use Rattle.lists.specs.Laws.Parts.{part-cut}
 use Rattle.model.specs.Model.{Answer, put, get, view, gives}
 use Rattle.model.specs.Calls.{reason, _yields_}
 use Rattle.frames.specs.Frames.{slotAt, topFrame}
@@ -58,6 +59,9 @@ module _ (S : Store) (s : ℕ) where
       pub view-second : refusal S (view s) ≡ g
       view-second = view-tests ∙ sym (asked ∙ rw (sized, kinded, read, led))
 
-      pub view-effect : (p : List ℕ) → g ≡ 0 → p ≡ take m (drop v (S .heap)) → Outcome (view s) S (viewAnswer S s p) S
+      -- and a and c: where the object's words begin, and how many there are
+      pub view-effect : g ≡ 0 → (a c : ℕ) → a ≡ min v (length (S .heap)) → c ≡ min m (length (S .heap) - v) → Outcome (view s) S (viewAnswer S s (take (a + c - a) (drop a (S .heap)))) S
       unfolding Accepted slot slotAt topFrame wordCount sizeOf
-      view-effect p z h = let e = view-second ∙ z in by-effect (view s) S (viewAnswer S s p) S e (rw (e, h, sized, kinded, read, object-header (S .heap) v, led), refl)
+      view-effect z a c begins counted =
+          let e = view-second ∙ z in
+          by-effect (view s) S _ S e (rw (e, part-cut (S .heap) v m a c begins counted, sized, kinded, read, object-header (S .heap) v, led), refl)

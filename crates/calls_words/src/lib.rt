@@ -142,5 +142,7 @@ pub fn view<'a>(s: State, heap: &'a [u32], slot: u32) -> &'a [u32]
     if g != 0 {
         return &heap[0..0];
     }
-    cells::part(heap, v as usize, size as usize)
+    let a = cells::within(v as usize, n);
+    let b = a + cells::part_len(v as usize, size as usize, n);
+    &heap[a..b]
 }

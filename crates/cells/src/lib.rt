@@ -49,6 +49,23 @@ pub fn store_byte(s: &mut [u8], i: usize, v: u8)
     }
 }
 
+// x, and n at most: where x is a place, and n a length, a place in the slice, or its end.
+pub fn within(x: usize, n: usize) -> usize
+    ensures { λ r. ⌜ r ≡ min x n ⌝ }
+{
+    if n <= x { n } else { x }
+}
+
+// How many elements there are from `at` on in a slice of `len`, n at most.
+pub fn part_len(at: usize, n: usize, len: usize) -> usize
+    ensures { λ r. ⌜ r ≡ min n (len - at) ⌝ }
+{
+    if len <= at {
+        return 0;
+    }
+    if len - at <= n { len - at } else { n }
+}
+
 // At most n elements from `at` on: those that there are.
 pub fn part(s: &[u32], at: usize, n: usize) -> &[u32]
     ensures { λ r. ⌜ now r ≡ take n (drop at (now (s .entry))) ⌝ }
@@ -56,10 +73,7 @@ pub fn part(s: &[u32], at: usize, n: usize) -> &[u32]
     if s.len() <= at {
         return &s[0..0];
     }
-    if s.len() - at <= n {
-        return &s[at..];
-    }
-    let e = at + n;
+    let e = at + part_len(at, n, s.len());
     &s[at..e]
 }
 

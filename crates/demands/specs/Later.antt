@@ -1,9 +1,9 @@
--- What document 02's cards promise beside the demands, of every memory or after every list of calls from every start. Each is a type; the theorems are in Laws: Later for card 1, Together and JointOfOne for card 2, Apart for card 3, Alike and Layout for card 4, Fillers and Totals for card 5.
+-- What document 02's cards promise beside the demands, of every memory or after every list of calls from every start. Each is a type; the theorems are in Laws: Later for card 1, Together, JointOfOne and Names for card 2, Apart for card 3, Alike and Layout for card 4, Fillers and Totals for card 5.
 -- Assumes nothing.
 use mathlib.Core.Path.{_≡_}
 use mathlib.Core.Logic.{_↔_, _≢_, _⊎_}
 use mathlib.Core.Bool.{Bool, true, false, not, _&&_, _||_}
-use mathlib.Core.List.{List, [], _∷_, map}
+use mathlib.Core.List.{List, [], _∷_, _++_, map}
 use Prim.Native.Nat.{ℕ, zero, suc, _+_, _-_, _*_, _/_, _%_, _≤_, _<_}
 use lib.Dec.{eqb}
 use lib.ListN.{length, getD}
@@ -94,6 +94,30 @@ unfoldable pub JointOfOne : Type 0
 JointOfOne =
     ((S : Store) (r f : ℕ) → SameAsDelete S r f ↔ (OnlyItself S r f → ⊥))
     × ((S : Store) (h : History) → Start S h → (es : List Event) (T : Store) → Run S es T → (r f : ℕ) → SameAsDelete T r f)
+
+-- a live region of S has the name r: an entry in use has it
+abbrev pub Lives : Store → ℕ → Type 0
+Lives S r = (r ≢ 0) × ((i : ℕ) × (i < 64) × (nameAt (regions S) i ≡ r))
+
+-- a list that no joint delete takes: no name, more than 16, or some name twice, whether it lives or not
+abbrev pub WrongList : List ℕ → Type 0
+WrongList l = (length l ≡ 0) ⊎ (16 < length l) ⊎ ((r : ℕ) × (2 ≤ times r l))
+
+-- r is the first name of the list that no live region has, or that is 1
+pub record FirstWrong (S : Store) (l : List ℕ) (r : ℕ) : Type 0 where
+  pub before : List ℕ
+  pub behind : List ℕ
+  pub parts : l ≡ before ++ (r ∷ behind)
+  pub passed : All (λ q. Lives S q × (q ≢ 1)) before
+  pub wrong : (Lives S r → ⊥) ⊎ (r ≡ 1)
+
+-- On every memory, where the heap's length is right, a joint delete for a filler 0 to 3 answers 22 exactly if its list is such a one; of any other list 2 or 3 exactly as that first name decides, 2 where no
+-- live region has it, 3 where it is 1 and region 1 lives. (Said by the list and the entries: the tests `wrongNames`, which demand 3 has too, and `nameTests`, both shared by ledger and outcomes, are no part of it)
+unfoldable pub NamesNext : Type 0
+NamesNext =
+    (l : List ℕ) (f : ℕ) (S : Store) (a : Answer) (T : Store) → Outcome (deleteAll l f) S a T → badLength S ≡ false → f ≤ 3
+    → ((a .refusal ≡ 22) ↔ WrongList l)
+    × ((WrongList l → ⊥) → ((a .refusal ≡ 2) ↔ ((r : ℕ) × FirstWrong S l r × (Lives S r → ⊥))) × ((a .refusal ≡ 3) ↔ (FirstWrong S l 1 × Lives S 1)))
 
 -- ---- Card 3: a region taken apart
 
@@ -189,7 +213,7 @@ Lowest l j = (among j l ≡ true) × ((i : ℕ) → i < j → among i l ≡ fals
 
 -- where objects lie, in a store and by what its calls told
 pub record Layout (h : History) (S : Store) : Type 0 where
-  -- if the next call makes an object and is accepted, its header stands on a page that its region held, or at the start of the lowest of the free ones. (On which of its region's pages, `pageFor` says)
+  -- if the next call makes an object and is accepted, its header stands on a page that its region held, or at the start of the lowest of the free ones. (By itself this would admit a store that fills an older page of the region, and one that takes a free page while the newest has room; that allocate does neither, its outcome says by `pageFor`)
   pub takes : (s r k : ℕ) (a : Answer) (T : Store) → Outcome (allocate s r k) S a T → a .refusal ≡ 0
       → (p : ℕ) × (slotAfter h T s ≡ p + 1) × ((among r (holders h (p / 64)) ≡ true) ⊎ (Lowest (h .free) (p / 64) × (p % 64 ≡ 0)))
   -- if the next call locates a slot that the top frame has, it answers 256 and 0 where the slot is null, else the page and the word of the place where the live object's header stands

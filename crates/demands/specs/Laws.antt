@@ -9,6 +9,7 @@ pub mod Opening
 pub mod Demand3
 pub mod Later
 pub mod JointOfOne
+pub mod Names
 pub mod Apart
 pub mod Alike
 pub mod Layout

@@ -1,14 +1,10 @@
 -- From what the functions gave to what scripts do.
 -- Assumes nothing.
 use mathlib.Core.Path.{_≡_, refl, sym, ap, subst, _∙_}
-use mathlib.Core.List.{List, [], _∷_, _++_, append-nil}
-use Prim.Native.Nat.{ℕ, zero, suc, _+_, _-_, _≤_, _<_, min}
+use mathlib.Core.List.{List, [], _∷_, _++_}
+use Prim.Native.Nat.{ℕ, zero, suc, _+_, _-_, _≤_, _<_}
 use native.Mathlib.Omega.{arith}
-use lib.Dec.{leb}
 use lib.ListN.{length, getD, take, drop, length-take}
-use lib.Seq.{take-append-add, length-take-le}
-use borrow.Author.Tests.{leb-true, leb-false, le-leb, lt-leb}
-use Rattle.lists.specs.Laws.Tests.{by-test}
 use Rattle.model.specs.Model.{Answer}
 use Rattle.state.specs.declared.State.{State}
 use Rattle.state.specs.declared.Reply.{Reply}
@@ -17,20 +13,15 @@ use Rattle.outcomes.specs.Outcome.{MakeOutcome, store, blank}
 use Rattle.script.specs.declared.Line.{Line}
 use Rattle.script.specs.Script.{heard}
 use Rattle.lines.specs.Lines.{Added}
-use Rattle.actions.specs.Acts.{Acts, wordsAfter}
-use Rattle.actions.specs.Laws.Fronts.{front-same}
-use Rattle.feed.specs.declared.Tally.{Tally}
-use Rattle.feed.specs.Scripted.{kept, tallied, answer, Talk, Scripted}
-use Rattle.feed.specs.Laws.Lengths.{answer-length}
+use Rattle.numbers.specs.Numbers.{wordsAfter}
+use Rattle.actions.specs.Acts.{Acts}
+use Rattle.tally.specs.declared.Tally.{Tally}
+use Rattle.tally.specs.Answers.{kept, tallied, answer}
+use Rattle.tally.specs.Laws.Lengths.{answer-length}
+use Rattle.feed.specs.Scripted.{Talk, Scripted}
 use Rattle.feed.specs.Laws.Steps.{piece, step-piece, step-line, answered}
 
 -- ---- room
-
-pub room-here : (n used : ℕ) → 1024 ≤ n → leb used (n - 1024) ≡ leb (used + 1024) n
-room-here n used h =
-    by-test (leb used (n - 1024))
-    (λ q. q ∙ sym (le-leb (used + 1024) n (omega (arith, leb-true used (n - 1024) q))))
-    (λ q. q ∙ sym (lt-leb (used + 1024) n (omega (arith, leb-false used (n - 1024) q))))
 
 -- the first line always finds room
 pub onward : (at used n : ℕ) → (at ≡ 0 → used ≡ 0) → n < used + 1024 → 1024 ≤ n → 0 < at
@@ -40,27 +31,6 @@ onward (suc at) used n e h k = omega arith
 -- an answer finds it
 pub used-fits : (c : Tally) (n a : ℕ) (r : Reply) (out out' : List ℕ) (used e : ℕ) → Added out used (answer c n a r) out' e → used + 1024 ≤ length out → e ≤ length out
 used-fits c n a r out out' used e add fits = let l = answer-length c n a r in omega (arith, add .end (omega (arith, l, fits)), l, fits)
-
-pub added-none : (l : List ℕ) (at : ℕ) → Added l at [] l at
-added-none l at = record { end = λ h. omega arith; text = λ h. sym (append-nil (take at l)) }
-
--- ---- what is kept of a line
-
-kept-more : (n : ℕ) (x y : List ℕ) → length x ≤ n → take n (x ++ y) ≡ x ++ take (n - length x) y
-kept-more n x y h = let e : n ≡ length x + (n - length x) = omega arith in ap (λ k. take k (x ++ y)) e ∙ take-append-add x y (n - length x)
-
--- from, n and r are what functions gave: how many bytes are kept, how many of s find room, and how many are kept then
-pub keeps : (line m s : List ℕ) (held from n r : ℕ) → length line ≡ 4100 → from ≡ min held 4100 → n ≡ min (length s) (4100 - from) → Added line from (take n s) m r
-    → (r ≤ 4100) × (take r m ≡ kept (take held line ++ s))
-keeps line m s held from n r h ef en a =
-    let ls : length (take n s) ≡ n = length-take-le n s (omega (arith, en)) in
-    let lk : length (take held line) ≡ from = length-take held line ∙ ap (min held) h ∙ sym ef in
-    let fits : from + length (take n s) ≤ length line = omega (arith, ls, h, ef, en) in
-    let cut : take from line ≡ take held line = front-same held line from (ef ∙ ap (min held) (sym h)) in
-    let cut-s : take n s ≡ take (4100 - from) s = front-same (4100 - from) s n (omega (arith, en)) in (
-      omega (arith, a .end fits, ls, ef, en),
-      a .text fits ∙ rw (cut, cut-s) (sym (kept-more 4100 (take held line) s (omega (arith, lk, ef)) ∙ ap (λ k. take held line ++ take (4100 - k) s) lk)),
-    )
 
 -- ---- the session that begins
 

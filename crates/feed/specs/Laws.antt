@@ -1,5 +1,4 @@
 -- Laws of what scripts do. Proved: nothing here has to be believed.
 pub mod Cuts
 pub mod Steps
-pub mod Lengths
 pub mod Examples

@@ -1,10 +1,10 @@
 -- What `help` and `why N` print in a script, as bytes.
 -- Assumes nothing.
 use mathlib.Core.List.{List, [], _∷_, _++_}
-use Prim.Native.Nat.{ℕ, min}
+use Prim.Native.Nat.{ℕ, _-_, min}
 use Prim.Native.String.{String}
 use lib.Dec.{eqb, ltb}
-use lib.ListN.{getD}
+use lib.ListN.{length, getD}
 use Rattle.lists.specs.Lists.{pick, joined}
 use Rattle.script.specs.Script.{bytes, rows}
 use Rattle.lines.specs.Lines.{decimal}
@@ -17,7 +17,7 @@ helpLine c = bytes "# " ++ pick (eqb (c .3) 1) (bytes "[as F] ") [] ++ bytes (c 
 unfoldable pub help : List ℕ
 help = joined helpLine rows
 
--- what a refusal's number says: first 0, which is no refusal, then 1 to 24, then any greater number
+-- what a refusal's number says: first 0, which is no refusal, then 1 and on, and last any greater number
 abbrev pub reasons : List String
 reasons =
     "accepted"
@@ -48,6 +48,10 @@ reasons =
     ∷ "no refusal has that number"
     ∷ []
 
+-- the place of the last of them
+abbrev pub lastReason : ℕ
+lastReason = length reasons - 1
+
 -- what `why n` prints
 unfoldable pub whyOf : ℕ → List ℕ
-whyOf n = bytes "# " ++ decimal n ++ bytes " " ++ bytes (getD reasons (min n 25) "") ++ (10 ∷ [])
+whyOf n = bytes "# " ++ decimal n ++ bytes " " ++ bytes (getD reasons (min n lastReason) "") ++ (10 ∷ [])

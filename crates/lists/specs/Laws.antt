@@ -5,6 +5,7 @@ pub mod All
 pub mod Finds
 pub mod UpTo
 pub mod Sets
+pub mod Parts
 pub mod Ticks
 pub mod Zeroed
 pub mod Kept

@@ -106,7 +106,7 @@ wordRules = record {
   skip = 4;
   prints =
       line 5 14 0 0 0 0 ∷ line 6 0 0 0 0 0 ∷ line 7 0 0 0 0 0 ∷ line 8 0 0 0 0 0 ∷ line 9 0 7 0 0 0 ∷ line 10 16 0 0 0 0 ∷ line 11 0 0 0 0 0
-      ∷ line 12 0 0 0 0 0 ∷ line 13 0 0 0 0 0 ∷ line 14 16 0 0 0 0 ∷ line 15 15 0 0 0 0 ∷ line 16 16 0 0 0 0 ∷ line 17 0 0 0 0 0 ∷ line 18 16 0 0 0 0
+      ∷ line 12 0 0 0 0 0 ∷ line 13 0 0 0 0 0 ∷ line 14 16 0 0 0 0 ∷ line 15 15 0 0 0 0 ∷ line 16 16 0 0 0 0 ∷ line 17 0 2 0 0 0 ∷ line 18 16 0 0 0 0
       ∷ line 19 0 2 0 0 0 ∷ line 20 0 0 0 0 0 ∷ line 21 17 0 0 0 0 ∷ line 22 17 0 0 0 0 ∷ line 23 0 0 0 0 0 ∷ [];
 }
 

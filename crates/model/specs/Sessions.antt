@@ -3,7 +3,9 @@
 use mathlib.Core.Bool.{true, false}
 use mathlib.Core.List.{List, [], _∷_, _++_}
 use Prim.Native.Nat.{ℕ, suc, _*_, _/_}
-use lib.ListN.{replicate, drop}
+use lib.Dec.{eqb}
+use lib.ListN.{length, getD, replicate, drop}
+use Rattle.lists.specs.Lists.{pick}
 use Rattle.model.specs.Model.{Answer, Call, declare, newRegion, subregion, push, dropFrame, allocate, clear, setPointer, report, totals, delete}
 use Rattle.model.specs.Calls.{run, makes, fresh}
 
@@ -11,9 +13,13 @@ use Rattle.model.specs.Calls.{run, makes, fresh}
 abbrev pub line : ℕ → ℕ → ℕ → ℕ → ℕ → ℕ → List ℕ
 line n e a b c d = n ∷ e ∷ a ∷ b ∷ c ∷ d ∷ []
 
+-- what a line has of an answer: the refusal and the values; of view, which answers a part, the length of that part in the place of the first value, as scripts print it
+abbrev pub shown : Answer → List ℕ
+shown a = a .refusal ∷ pick (eqb (length (a .part)) 0) (getD (a .values) 0 0) (length (a .part)) ∷ drop 1 (a .values)
+
 abbrev pub lines : ℕ → List Answer → List (List ℕ)
 lines n [] = []
-lines n (a ∷ more) = (n ∷ a .refusal ∷ a .values) ∷ lines (suc n) more
+lines n (a ∷ more) = (n ∷ shown a) ∷ lines (suc n) more
 
 -- make, with w words, and then the calls; none if make is refused
 unfoldable pub session : ℕ → List Call → List (List ℕ)

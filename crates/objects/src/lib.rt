@@ -12,7 +12,9 @@ ghost use Rattle.objects.specs.Parts.{partAt, objectOf, headerIn, wordIn
 pub fn part_at(heap: &[u32], at: usize) -> &[u32]
     ensures { λ r. ⌜ now r ≡ partAt (now (heap .entry)) at ⌝ }
 {
-    cells::part(heap, at, 17)
+    let a = cells::within(at, heap.len());
+    let b = a + cells::part_len(at, 17, heap.len());
+    &heap[a..b]
 }
 
 // The part that begins at the object that a pointer leads to, empty for null.

@@ -85,7 +85,7 @@ calls =
 abbrev pub words : List (String × ℕ × ℕ × ℕ × String)
 words = ("summary", 0, 0, 0, "") ∷ ("help", 0, 0, 0, "") ∷ ("why", 1, 1, 0, "REFUSAL") ∷ []
 
--- calls and words together: a word that is no call has a number after those of the calls
+-- calls and words together, as help has them
 abbrev pub rows : List (String × ℕ × ℕ × ℕ × String)
 rows = calls ++ words
 
@@ -93,49 +93,63 @@ rows = calls ++ words
 abbrev pub lastCall : ℕ
 lastCall = length calls
 
--- the numbers of the words, after those of the calls; and the mark of a line that is none of all these, which no call will have
+-- The numbers of the words, in their order, and the mark of a line that is none of all these: the last four of a byte, which no call will have.
+abbrev pub firstWord : ℕ
+firstWord = 252
+
 abbrev pub summaryWord : ℕ
-summaryWord = lastCall + 1
+summaryWord = firstWord
 
 abbrev pub helpWord : ℕ
-helpWord = lastCall + 2
+helpWord = firstWord + 1
 
 abbrev pub whyWord : ℕ
-whyWord = lastCall + 3
+whyWord = firstWord + 2
 
 abbrev pub noCall : ℕ
 noCall = 255
 
 unfoldable pub names : List (List ℕ)
-names = map (λ c. bytes (c .0)) rows
+names = map (λ c. bytes (c .0)) calls
 
--- by a call's number, 0 for none
-unfoldable pub least : List ℕ
-least = 0 ∷ map (λ c. c .1) rows
+unfoldable pub wordNames : List (List ℕ)
+wordNames = map (λ c. bytes (c .0)) words
 
-unfoldable pub most : List ℕ
-most = 0 ∷ map (λ c. c .2) rows
+-- a column of both tables, by number: the calls count from 1, the words from 252, and every other number has 0
+abbrev pub column : (String × ℕ × ℕ × ℕ × String → ℕ) → ℕ → ℕ
+column f n = pick (ltb n firstWord) (getD (0 ∷ map f calls) n 0) (getD (map f words) (n - firstWord) 0)
 
+unfoldable pub least : ℕ → ℕ
+least n = column (λ c. c .1) n
+
+unfoldable pub most : ℕ → ℕ
+most n = column (λ c. c .2) n
+
+-- by a call's number, 0 for none; no filler may be named in front of a word
 unfoldable pub fillers : List ℕ
-fillers = 0 ∷ map (λ c. c .3) rows
+fillers = 0 ∷ map (λ c. c .3) calls
 
 -- the place of a word in a list, counted from n on, or 0
 unfoldable pub placed : ℕ → List ℕ → List (List ℕ) → ℕ
 placed n w [] = 0
 placed n w (v ∷ vs) = pick (equal eqb w v) n (placed (suc n) w vs)
 
--- the number of the call that a word names or numbers, or of a word that is no call; 1 for `pages`, 0 for none
+-- the number of the call, or of the word that is no call, with that name; 1 for `pages`, 0 for none
+unfoldable pub named : List ℕ → ℕ
+named w = let n = placed 1 w names in pick (eqb n 0) (placed firstWord w wordNames) n
+
+-- the number of the call that a word names or numbers, or of a word that is no call
 unfoldable pub callOf : List ℕ → ℕ
-callOf w = pick (leb 2 (value w) && leb (value w) lastCall) (value w) (placed 1 w names)
+callOf w = pick (leb 2 (value w) && leb (value w) lastCall) (value w) (named w)
 
 -- call n takes k arguments
 unfoldable pub takes : ℕ → ℕ → Bool
-takes n k = leb (getD least n 0) k && leb k (getD most n 0)
+takes n k = leb (least n) k && leb k (most n)
 
 -- Call n may stand here with k arguments, a the first of them. The stage is 0 where no `pages` line came, 1 where make refused the last one, and 2 where a
 -- store is made: `pages` with 257 at most while none is made, any other call after a `pages` line; a word that is no call anywhere.
 unfoldable pub allowed : ℕ → ℕ → ℕ → ℕ → Bool
-allowed stage n k a = not (eqb n 0) && takes n k && pick (eqb n 1) (ltb stage 2 && leb a 257) (ltb lastCall n || ltb 0 stage)
+allowed stage n k a = not (eqb n 0) && takes n k && pick (eqb n 1) (ltb stage 2 && leb a 257) (leb firstWord n || ltb 0 stage)
 
 -- ---- lines
 

@@ -15,8 +15,9 @@ use Rattle.outcomes.specs.Runs.{Event, calls, answers, Run}
 use Rattle.store.specs.Dispatch.{isCall}
 use Rattle.script.specs.Script.{heard}
 use Rattle.actions.specs.Acts.{printed}
-use Rattle.feed.specs.declared.Tally.{Tally}
-use Rattle.feed.specs.Scripted.{ended, tallied, answer, Turns, Talk, Scripted, start, scripted}
+use Rattle.tally.specs.declared.Tally.{Tally}
+use Rattle.tally.specs.Answers.{tallied, answer}
+use Rattle.feed.specs.Scripted.{ended, Turns, Talk, Scripted, start, scripted}
 
 -- Feeding x and then y is feeding x followed by y, wherever the cut.
 unfoldable pub CutAnywhere : Type 0

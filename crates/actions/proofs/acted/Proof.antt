@@ -13,7 +13,7 @@ returns c h k =
     let t = w .before .before .before in
     let a = t .before .before .before .args in
     let few : getD (a .l .args) 0 0 ≤ 257 = k (t .if1 .taken) in
-    acts-make (a .l) _ _ (a .memory .now) (m .make .last .0) _ _ (a .words) (w .least .result - 0) (t .if1 .taken) (omega (arith, w .least .ensures, w .before .words-of .ensures)) (omega (arith, few, h)) (search needs) (m .make .ensures)
+    acts-make (a .l) _ _ (a .memory .now) (m .make .last .0) _ _ (a .words) (w .within .result - 0) (t .if1 .taken) (omega (arith, w .within .ensures, w .before .words-of .ensures)) (omega (arith, few, h)) (search needs) (m .make .ensures)
 
 returns-2 : tie.Need-returns-2
 returns-2 c h k =
@@ -21,7 +21,7 @@ returns-2 c h k =
     let w = m .before .before in
     let t = w .before in
     let a = t .before .before .before .args in
-    acts-call (a .l) _ _ (a .memory .now) (m .called .last .1 .0) _ _ (a .words) (w .least2 .result - 0) (t .if1 .left) (omega (arith, w .least2 .ensures)) (search needs) (search needs) (m .called .ensures (omega (arith, h, length-take (w .least2 .result - 0) (a .memory .now))))
+    acts-call (a .l) _ _ (a .memory .now) (m .called .last .1 .0) _ _ (a .words) (w .within2 .result - 0) (t .if1 .left) (omega (arith, w .within2 .ensures)) (search needs) (search needs) (m .called .ensures (omega (arith, h, length-take (w .within2 .result - 0) (a .memory .now))))
 
 pub acted-spec : {M : Type 1} → statement M
 acted-spec =

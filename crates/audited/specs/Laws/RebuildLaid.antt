@@ -3,7 +3,7 @@
 use mathlib.Core.Path.{_≡_, refl, sym, ap, _∙_, subst, fun-ext}
 use mathlib.Core.Logic.{_≢_}
 use mathlib.Core.Bool.{Bool, true, false, _&&_, _||_, true≢false}
-use mathlib.Core.List.{List, [], map}
+use mathlib.Core.List.{List, [], map, map-map}
 use Prim.Native.Nat.{ℕ, zero, suc, _-_, _*_, _/_, _%_, _≤_, _<_}
 use native.Mathlib.Omega.{arith}
 use lib.Dec.{eqb, ltb, leb}
@@ -14,7 +14,7 @@ use Rattle.lists.specs.Laws.Tests.{by-test, both, or-other, or-known}
 use Rattle.lists.specs.Laws.All.{all-in, all-change}
 use Rattle.lists.specs.Laws.Finds.{every-true}
 use Rattle.lists.specs.Laws.UpTo.{every-each, getD-map-upTo, length-map-upTo}
-use Rattle.lists.specs.Laws.Kept.{map-all, map-map, all-places, find-map, all₂-each}
+use Rattle.lists.specs.Laws.Kept.{map-all, all-places, find-map, all₂-each}
 use Rattle.model.specs.Model.{Region, noObject, noRegion, marks, livesIn, homeIn, parentIn, above, rule, allowed}
 use Rattle.model.specs.Valid.{ValidObject, fine}
 use Rattle.model.specs.Laws.Regions.{live-all}

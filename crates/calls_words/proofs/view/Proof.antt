@@ -17,15 +17,16 @@ returns c =
 
 returns-2 : tie.Need-returns-2
 returns-2 c =
-    let u = c .before .before in
+    let w = c .before .before in
+    let u = w .before .before in
     let z = u .before .before .before .before .before in
     let h = z .before .before in
     let o = h .before in
-    view-effect _ _ _ _ (o .before .top-slot .ensures) (o .object-of .ensures) _ _ _ (h .kind-of .ensures) (z .size-of .ensures) (u .unseen .ensures) _ (c .before .if1 .left) (c .part .ensures)
+    view-effect _ _ _ _ (o .before .top-slot .ensures) (o .object-of .ensures) _ _ _ (h .kind-of .ensures) (z .size-of .ensures) (u .unseen .ensures) (w .before .if1 .left) _ _ (w .within .ensures) (c .before .part-len .ensures)
 
 -- what the type says of the marks
 marks-long : (s : tie.Start) → length (s .args .s .kinds .marks) ≡ 256
 marks-long s = search needs
 
 pub view-spec : {M : Type 1} → statement M
-view-spec = tie.close (tie.spec (λ c κs. search needs) (λ c κs. search needs) (λ c κs. search needs) (λ c. search needs) (λ c κs. search needs) (λ c. search (needs, marks-long (c .before .before .before .before .before .before .before .before .before .before .before .before .before .before .before .before))) (λ c κs. search needs) (λ c. search needs) (λ c. search needs) (λ c. search needs) returns (λ c. search needs) (λ c. search needs) (λ c κs. search needs) returns-2)
+view-spec = tie.close (tie.spec (λ c κs. search needs) (λ c κs. search needs) (λ c κs. search needs) (λ c. search needs) (λ c κs. search needs) (λ c. search (needs, marks-long (c .before .before .before .before .before .before .before .before .before .before .before .before .before .before .before .before))) (λ c κs. search needs) (λ c. search needs) (λ c. search needs) (λ c. search needs) returns (λ c. search needs) (λ c κs. search needs) (λ c. search needs) (λ c. search needs) (λ c κs. search needs) (λ c. search needs) (λ c. search needs) (λ c. search needs) (λ c. search needs) (λ c. search needs) returns-2)

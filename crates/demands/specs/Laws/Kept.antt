@@ -2,7 +2,7 @@
 -- Assumes nothing.
 use mathlib.Core.Path.{_≡_, refl, sym, ap, ap₂, _∙_, fun-ext}
 use mathlib.Core.Bool.{Bool, true, false, not, _&&_}
-use mathlib.Core.List.{List, [], _∷_, _++_, map}
+use mathlib.Core.List.{List, [], _∷_, _++_, map, map-append}
 use Prim.Native.Nat.{ℕ, zero, suc, _+_, _-_, _≤_}
 use native.Mathlib.Numerals.{add-one}
 use native.Mathlib.Omega.{arith}
@@ -13,7 +13,6 @@ use Rattle.lists.specs.Lists.{pick, sumOf, from, among}
 use Rattle.lists.specs.Laws.Tests.{by-test, pick-same}
 use Rattle.lists.specs.Laws.All.{all-map, all-at}
 use Rattle.lists.specs.Laws.Sums.{sum-append, sum-map, sum-keep, sum-same}
-use Rattle.lists.specs.Laws.Finds.{map-append}
 use Rattle.lists.specs.Laws.UpTo.{sum-from-suc, all-from}
 use Rattle.model.specs.Model.{Model, Region, Object, noObject, object, called, live, livesIn, homeIn, topPlace, top, slot}
 use Rattle.model.specs.Calls.{fillSlot, popFrame, replaced, withWord, withObjects, writeWord, addRegion, pageFor, grown, addObject, others, removeRegions, size}

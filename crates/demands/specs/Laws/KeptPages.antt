@@ -3,7 +3,7 @@
 use mathlib.Core.Path.{_≡_, refl, sym, ap, _∙_, fun-ext}
 use mathlib.Core.Logic.{_⊎_, inl, inr, _≢_}
 use mathlib.Core.Bool.{Bool, true, false, not, _&&_, true≢false}
-use mathlib.Core.List.{List, [], _∷_, _++_, map, append-nil}
+use mathlib.Core.List.{List, [], _∷_, _++_, map, append-nil, map-append}
 use Prim.Native.Nat.{ℕ, zero, suc, _+_, _/_, _≤_, _<_}
 use native.Mathlib.Nat.{add-zero}
 use native.Mathlib.Omega.{arith}
@@ -14,7 +14,7 @@ use borrow.Author.Tests.{eq-eqb, ne-eqb, ltb-true}
 use Rattle.lists.specs.Lists.{bit, pick, every, keep, sumOf, All, joined, times, among}
 use Rattle.lists.specs.Laws.Tests.{by-test, by-same, pick-same, eqb-sym}
 use Rattle.lists.specs.Laws.Sums.{sum-append, sum-nothing, sum-map, sum-joined, sum-keep}
-use Rattle.lists.specs.Laws.Finds.{any-count, times-keep, keep-append, map-append}
+use Rattle.lists.specs.Laws.Finds.{any-count, times-keep, keep-append}
 use Rattle.model.specs.Model.{Model, region, livesIn}
 use Rattle.regions.specs.declared.Regions.{Regions}
 use Rattle.regions.specs.Regions.{nameAt, entryOf, tagOf, clearedAt}

@@ -78,8 +78,8 @@ loop-again c =
       (λ m n.
           let r = line-room ke n in
           let kept = ke .keep .ensures r in
-          let k : he .before .before .before .least .result - 0 ≡ ke .keep .result =
-          omega (arith, he .before .before .before .least .ensures, kept .0, r, he .before .before .before .before .before .before .line .given) in
+          let k : he .before .before .before .within .result - 0 ≡ ke .keep .result =
+          omega (arith, he .before .before .before .within .ensures, kept .0, r, he .before .before .before .before .before .before .line .given) in
           turned _ _ (l .loop .line) _ (l .loop .out) _ (l .loop .memory) _ (l .loop .at) _ (l .loop .used) _ (l .loop .held) (ke .keep .result) (l .loop .words) _ (l .loop .c) _ (l .loop .t) _ (he .heard .result) _
           (en .line-end .ensures)
           (he .before .before .before .before .if2 .taken)
@@ -138,7 +138,7 @@ feed-spec =
     (λ c κs. search needs)
     (λ c. search needs)
     (λ c. search needs)
-    (λ c. omega (arith, c .before .least .ensures))
+    (λ c. omega (arith, c .before .within .ensures))
     (λ c κs. search needs)
     (λ c κs. search needs)
     (λ c. search needs)

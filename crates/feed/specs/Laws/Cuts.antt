@@ -7,8 +7,9 @@ use Prim.Native.Nat.{ℕ}
 use lib.Dec.{eqb}
 use Rattle.lists.specs.Lists.{pick}
 use Rattle.outcomes.specs.Store.{Store}
-use Rattle.feed.specs.declared.Tally.{Tally}
-use Rattle.feed.specs.Scripted.{kept, ended, left, Turn, Turns, Talk, Scripted}
+use Rattle.tally.specs.declared.Tally.{Tally}
+use Rattle.tally.specs.Answers.{kept}
+use Rattle.feed.specs.Scripted.{ended, left, Turn, Turns, Talk, Scripted}
 
 pub ended-cut : (k x y : List ℕ) → ended k (x ++ y) ≡ ended k x ++ ended (left k x) y
 unfolding ended left

@@ -17,8 +17,9 @@ use Rattle.script.specs.declared.Line.{Line}
 use Rattle.script.specs.Script.{front, ofClass, heard}
 use Rattle.script.specs.Laws.Words.{front-take, front-length}
 use Rattle.actions.specs.Acts.{Acts}
-use Rattle.feed.specs.declared.Tally.{Tally}
-use Rattle.feed.specs.Scripted.{kept, ended, left, tallied, answer, Turn, Turns, Talk, Scripted}
+use Rattle.tally.specs.declared.Tally.{Tally}
+use Rattle.tally.specs.Answers.{kept, tallied, answer}
+use Rattle.feed.specs.Scripted.{ended, left, Turn, Turns, Talk, Scripted}
 use Rattle.feed.specs.Laws.Cuts.{scripted-both}
 
 -- ---- a piece of a line: bytes in front up to a newline

@@ -6,13 +6,13 @@ use lib.ListN.{getD}
 use Rattle.script.specs.Script.{bytes}
 use Rattle.lines.specs.Laws.Adding.{added}
 use Rattle.guide.specs.Text.{linesOf}
-use Rattle.guide.specs.Guide.{reasons, whyOf}
+use Rattle.guide.specs.Guide.{reasons, lastReason, whyOf}
 use Rattle.guide.proofs.Laws.{reason-is}
 use Rattle.guide.proofs.add_why.Statement.{statement}
 use Rattle.guide.proofs.add_why.Tie as tie
 
 -- any number above the refusals has the last reason
-last-for-greater : (c : tie.After-least) → c .least .result ≡ min (c .before .before .before .args .n) 25
+last-for-greater : (c : tie.After-least) → c .least .result ≡ min (c .before .before .before .args .n) lastReason
 last-for-greater c = c .least .ensures
 
 -- the lines of the byte string are the reasons, in order

@@ -12,7 +12,7 @@ use Rattle.lists.specs.Laws.All.{all-at}
 use Rattle.lists.specs.Laws.Finds.{every-true}
 use Rattle.script.specs.Script.{bytes}
 use Rattle.lines.specs.Laws.Lengths.{decimal-length}
-use Rattle.guide.specs.Guide.{helpLine, help, reasons, whyOf}
+use Rattle.guide.specs.Guide.{helpLine, help, reasons, lastReason, whyOf}
 
 pub help-length : length help ≤ 1024
 unfolding bytes helpLine help
@@ -26,6 +26,6 @@ reasons-short = refl
 pub why-length : (n : ℕ) → length (whyOf n) ≤ 256
 unfolding bytes whyOf
 why-length n =
-    let t = getD reasons (min n 25) "" in
-    let h : length (bytes t) ≤ 130 = leb-true _ _ (all-at (λ t. leb (length (bytes t)) 130 ≡ true) reasons (min n 25) "" (every-true (λ t. leb (length (bytes t)) 130) reasons reasons-short) refl) in
+    let t = getD reasons (min n lastReason) "" in
+    let h : length (bytes t) ≤ 130 = leb-true _ _ (all-at (λ t. leb (length (bytes t)) 130 ≡ true) reasons (min n lastReason) "" (every-true (λ t. leb (length (bytes t)) 130) reasons reasons-short) refl) in
     simp length-append (omega (arith, decimal-length n))

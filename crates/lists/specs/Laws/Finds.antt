@@ -225,10 +225,6 @@ module _ {A B : Type 0} where
   joined-append g [] r = refl
   joined-append g (x ∷ xs) r = rw (joined-append g xs r) (sym (append-assoc (g x) (joined g xs) (joined g r)))
 
-  pub map-append : (g : A → B) (l r : List A) → map g (l ++ r) ≡ map g l ++ map g r
-  map-append g [] r = refl
-  map-append g (x ∷ xs) r = ap (λ l. g x ∷ l) (map-append g xs r)
-
   -- any default will do where the place is in the list
   pub getD-map-in : (g : A → B) (l : List A) (i : ℕ) (d : B) (e : A) → i < length l → getD (map g l) i d ≡ g (getD l i e)
   getD-map-in g [] i d e h = absurd (not-suc-le-zero h)

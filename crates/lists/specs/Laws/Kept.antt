@@ -3,7 +3,7 @@
 use mathlib.Core.Path.{_≡_, refl, sym, ap, ap₂, _∙_, subst, fun-ext}
 use mathlib.Core.Logic.{_≢_}
 use mathlib.Core.Bool.{Bool, true, false, _&&_, _||_, or-false, false≢true}
-use mathlib.Core.List.{List, [], _∷_, _++_, map}
+use mathlib.Core.List.{List, [], _∷_, _++_, map, map-append}
 use Prim.Native.Nat.{ℕ, zero, suc, _+_, _≤_, _<_, min}
 use native.Mathlib.Omega.{arith}
 use lib.Dec.{eqb, leb}
@@ -12,7 +12,7 @@ use borrow.Author.Tests.{leb-true, leb-false, ltb-false, eqb-true, eqb-false, eq
 use Rattle.lists.specs.Lists.{bit, pick, anyOf, keep, findOr, sumOf, All, All₂, joined, from, upTo, times, among, repeats}
 use Rattle.lists.specs.Laws.Tests.{by-test, neither, or-right, eqb-sym}
 use Rattle.lists.specs.Laws.All.{all-map, all-in, all-append, all-change}
-use Rattle.lists.specs.Laws.Finds.{all-keep, any-count, any-false, map-append}
+use Rattle.lists.specs.Laws.Finds.{all-keep, any-count, any-false}
 use Rattle.lists.specs.Laws.Sums.{sum-pick, sum-map, sum-same, sum-swap, length-keep, count-most}
 use Rattle.lists.specs.Laws.UpTo.{all-upTo, upTo-all, any-one, none-any, length-upTo, sum-suc, sum-change}
 
@@ -63,10 +63,6 @@ module _ {A B : Type 0} where
   all₂-each-of C P (x ∷ xs) (y ∷ ys) h = ((λ q c. h q c .0), all₂-each-of C P xs ys (λ q c. h q c .1))
 
 module _ {A B C : Type 0} where
-  pub map-map : (f : B → C) (g : A → B) (l : List A) → map f (map g l) ≡ map (λ x. f (g x)) l
-  map-map f g [] = refl
-  map-map f g (x ∷ xs) = ap (λ r. f (g x) ∷ r) (map-map f g xs)
-
   pub map-joined : (f : B → C) (g : A → List B) (l : List A) → map f (joined g l) ≡ joined (λ x. map f (g x)) l
   map-joined f g [] = refl
   map-joined f g (x ∷ xs) = map-append f (g x) (joined g xs) ∙ ap (λ r. map f (g x) ++ r) (map-joined f g xs)

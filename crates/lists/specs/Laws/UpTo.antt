@@ -3,7 +3,7 @@
 use mathlib.Core.Path.{_≡_, refl, sym, ap, _∙_}
 use mathlib.Core.Logic.{_≢_, _⊎_, inl, inr}
 use mathlib.Core.Bool.{Bool, true, false, _&&_, true≢false}
-use mathlib.Core.List.{List, [], _∷_, _++_, map, append-nil}
+use mathlib.Core.List.{List, [], _∷_, _++_, map, append-nil, map-append}
 use Prim.Native.Nat.{ℕ, zero, suc, _+_, _-_, _<_, _≤_}
 use native.Mathlib.Nat.{le-of-suc-le-suc, not-suc-le-zero}
 use native.Mathlib.Numerals.{add-one}
@@ -16,7 +16,7 @@ use Rattle.lists.specs.Lists.{bit, pick, anyOf, every, keep, findOr, sum
 use Rattle.lists.specs.Laws.Tests.{by-test, by-same}
 use Rattle.lists.specs.Laws.All.{all-in}
 use Rattle.lists.specs.Laws.Sums.{sum-append, sum-same, sum-zero}
-use Rattle.lists.specs.Laws.Finds.{false-any, any-in, every-true, true-every, keep-append, joined-append, map-append, getD-map-in, find-none, find-passes, all-found}
+use Rattle.lists.specs.Laws.Finds.{false-any, any-in, every-true, true-every, keep-append, joined-append, getD-map-in, find-none, find-passes, all-found}
 
 from-last : (k n : ℕ) → from k (suc n) ≡ from k n ++ ((k + n) ∷ [])
 from-last k zero = let e : k ≡ k + 0 = omega arith in ap (λ x. x ∷ []) e

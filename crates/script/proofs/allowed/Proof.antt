@@ -1,7 +1,7 @@
 use Prim.Native.Nat.{_≤_, _<_}
 use native.Mathlib.Omega.{arith}
 use borrow.Author.Needs.{needs}
-use borrow.Author.Tests.{eq-eqb, ne-eqb, lt-ltb, le-ltb, not-true, not-false}
+use borrow.Author.Tests.{eq-eqb, ne-eqb, lt-ltb, le-ltb, le-leb, lt-leb, not-true, not-false}
 use Rattle.script.specs.Script.{allowed}
 use Rattle.script.proofs.allowed.Statement.{statement}
 use Rattle.script.proofs.allowed.Tie as tie
@@ -31,11 +31,11 @@ returns-4 c = rw (← c .before .before .before .takes .ensures) (simp (ne-eqb _
 
 returns-5 : tie.Need-returns-5
 unfolding allowed
-returns-5 c = rw (← c .before .before .before .takes .ensures) (simp (ne-eqb _ _ (c .before .before .before .before .if1 .left), not-false (c .before .before .before .takes .result) (c .before .before .if2 .left), ne-eqb _ _ (c .before .if3 .left), lt-ltb _ _ (c .if5 .taken)))
+returns-5 c = rw (← c .before .before .before .takes .ensures) (simp (ne-eqb _ _ (c .before .before .before .before .if1 .left), not-false (c .before .before .before .takes .result) (c .before .before .if2 .left), ne-eqb _ _ (c .before .if3 .left), le-leb _ _ (c .if5 .taken)))
 
 returns-6 : tie.Need-returns-6
 unfolding allowed
-returns-6 c = rw (← c .before .before .before .takes .ensures) (simp (ne-eqb _ _ (c .before .before .before .before .if1 .left), not-false (c .before .before .before .takes .result) (c .before .before .if2 .left), ne-eqb _ _ (c .before .if3 .left), le-ltb _ _ (c .if5 .left)))
+returns-6 c = rw (← c .before .before .before .takes .ensures) (simp (ne-eqb _ _ (c .before .before .before .before .if1 .left), not-false (c .before .before .before .takes .result) (c .before .before .if2 .left), ne-eqb _ _ (c .before .if3 .left), lt-leb _ _ (c .if5 .left)))
 
 pub allowed-spec : {M : Type 1} → statement M
 allowed-spec = tie.close (tie.spec returns (λ c κs. search needs) returns-2 returns-3 returns-4 returns-5 returns-6)

@@ -6,7 +6,7 @@ use Rattle.script.proofs.most.Tie as tie
 -- the numbers of the code are those of the table
 returns : tie.Need-returns
 unfolding most
-returns c = c .byte .ensures
+returns c = c .column .ensures
 
 pub most-spec : {M : Type 1} → statement M
-most-spec = tie.close (tie.spec (λ c. search needs) (λ c κs. search needs) returns)
+most-spec = tie.close (tie.spec (λ c. search needs) (λ c. search needs) (λ c κs. search needs) returns)

@@ -16,7 +16,7 @@ use Rattle.lists.specs.Laws.Every.{equal-is, equal-self}
 use Rattle.lists.specs.Laws.Tests.{both, by-test, pick-same}
 use Rattle.lists.specs.Laws.Sets.{getD-sets-out}
 use Rattle.script.specs.declared.Line.{Line}
-use Rattle.script.specs.Script.{bytes, tokens, value, noNumber, known, lastCall, names, fillers, placed, callOf, takes, allowed, line, zeros, bad, given, called, acting, said, scanned, mark, unmarked, longestLine, fitting, heard}
+use Rattle.script.specs.Script.{bytes, tokens, value, noNumber, known, lastCall, names, wordNames, fillers, placed, named, callOf, takes, allowed, line, zeros, bad, given, called, acting, said, scanned, mark, unmarked, longestLine, fitting, heard}
 
 -- ---- names
 
@@ -43,11 +43,11 @@ module _ (w : List ℕ) (v : ℕ) (e : v ≡ value w) where
   unfolding callOf
   numbered h k = rw (← e, le-leb 2 v h, le-leb v lastCall k)
 
-  pub small-named : v < 2 → placed 1 w names ≡ callOf w
+  pub small-named : v < 2 → named w ≡ callOf w
   unfolding callOf
   small-named h = rw (← e, lt-leb 2 v h)
 
-  pub great-named : lastCall < v → placed 1 w names ≡ callOf w
+  pub great-named : lastCall < v → named w ≡ callOf w
   unfolding callOf
   great-named h = rw (← e, lt-leb v lastCall h, and-false (leb 2 v))
 
@@ -116,7 +116,7 @@ module _ (stage : ℕ) (w : List ℕ) where
 
   -- no call
   pub acting-alone : bad ≡ acting stage (w ∷ [])
-  unfolding acting bytes value names placed callOf fillers
+  unfolding acting bytes value names wordNames placed named callOf fillers
   acting-alone = rw (and-false (known (value w)))
 
   -- a number, and a call

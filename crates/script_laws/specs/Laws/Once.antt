@@ -16,8 +16,9 @@ use Rattle.store.specs.Dispatch.{isCall}
 use Rattle.script.specs.declared.Line.{Line}
 use Rattle.script.specs.Script.{heard}
 use Rattle.actions.specs.Acts.{lineCall, printed, CalledBy, Called, Makes, ActsBy, Acts}
-use Rattle.feed.specs.declared.Tally.{Tally}
-use Rattle.feed.specs.Scripted.{ended, left, tallied, answer, Turn, Turns, Talk}
+use Rattle.tally.specs.declared.Tally.{Tally}
+use Rattle.tally.specs.Answers.{tallied, answer}
+use Rattle.feed.specs.Scripted.{ended, left, Turn, Turns, Talk}
 use Rattle.promises.specs.Promises.{Total}
 use Rattle.promises.specs.Laws.Refused.{total, one-outcome}
 use Rattle.script_laws.specs.Scripts.{OneAnswer}

@@ -21,8 +21,9 @@ use Rattle.script.specs.declared.Line.{Line}
 use Rattle.script.specs.Script.{heard}
 use Rattle.script.specs.Laws.Lines.{few-heard}
 use Rattle.actions.specs.Acts.{lineCall, callsOf, printed, CalledBy, Called, Makes, ActsBy, Acts}
-use Rattle.feed.specs.declared.Tally.{Tally}
-use Rattle.feed.specs.Scripted.{ended, tallied, answer, Turns, start, scripted}
+use Rattle.tally.specs.declared.Tally.{Tally}
+use Rattle.tally.specs.Answers.{tallied, answer}
+use Rattle.feed.specs.Scripted.{ended, Turns, start, scripted}
 use Rattle.script_laws.specs.Scripts.{nextReply, nextAnswers, told, MadeRuns, Begun, ScriptRuns}
 
 -- ---- after the store is made

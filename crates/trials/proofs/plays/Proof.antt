@@ -6,10 +6,10 @@ use Rattle.trials.proofs.plays.Statement.{statement}
 use Rattle.trials.proofs.plays.Tie as tie
 
 abbrev Inv-loop : tie.InvT-loop
-Inv-loop heap₀ first since calls t₀ place₀ i₀ heap t place i = length heap ≡ length heap₀
+Inv-loop heap₀ calls t₀ i₀ heap t i = length heap ≡ length heap₀
 
 abbrev μ-loop : tie.MeasureT-loop
-μ-loop heap₀ first since calls t₀ place₀ i₀ heap t place i = length calls - i
+μ-loop heap₀ calls t₀ i₀ heap t i = length calls - i
 
 pub plays-spec : {M : Type 1} → statement M
 plays-spec =
@@ -25,8 +25,7 @@ plays-spec =
     (λ c. search needs)
     (λ c. search needs)
     (λ c. search needs)
-    (λ c κs. search needs)
-    (λ c κs. search needs)
+    (λ c. search needs)
     (λ c κs. search needs)
     (λ c. search needs)
     (λ c. search needs)
