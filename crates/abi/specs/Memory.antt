@@ -43,9 +43,13 @@ OfSizes [] (l ∷ ls) = ⊥
 OfSizes (p ∷ ps) [] = ⊥
 OfSizes (p ∷ ps) (l ∷ ls) = (length l ≡ p .1) × All (λ x. x < limit (p .0)) l × OfSizes ps ls
 
+-- arrays of these sizes
+abbrev pub Fitting : List (List ℕ) → Type 0
+Fitting memory = OfSizes sizes memory
+
 -- the memory holds the state s, in arrays of these sizes
 unfoldable pub HoldsState : State → List (List ℕ) → Type 0
-HoldsState s memory = (memory ≡ arraysOf s) × OfSizes sizes memory
+HoldsState s memory = (memory ≡ arraysOf s) × Fitting memory
 
 -- the numbers that a host reads as the reply
 abbrev pub replyOf : Reply → List ℕ

@@ -12,7 +12,7 @@ ghost use lib.Dec.{eqb};
 ghost use lib.ListN.{length};
 ghost use lib.Seq.{sets};
 ghost use Rattle.lists.specs.Lists.{pick};
-ghost use Rattle.abi.specs.Memory.{HoldsState, Made, Called, Viewed, layout};
+ghost use Rattle.abi.specs.Memory.{HoldsState, Fitting, Made, Called, Viewed, layout};
 
 // The state that the memory holds.
 fn held(
@@ -61,6 +61,41 @@ fn held(
     };
     shapes::state_shaped(s);
     s
+}
+
+// What the types say of the memory lent. It gives nothing: its contract is what it is for.
+fn sized(
+    numbers: [u32; 5],
+    widths: &[u8; 32],
+    slots: &[u32; 256],
+    sizes: &[u8; 16],
+    marks: &[u8; 256],
+    names: &[u32; 64],
+    parents: &[u8; 64],
+    levels: &[u8; 64],
+    shares: &[u32; 256],
+    newest: &[u16; 64],
+    oldest: &[u32; 64],
+    owners: &[u8; 256],
+    taken: &[u8; 256],
+)
+    ensures { λ _. ⌜ Fitting (numbers ∷ now (widths .entry) ∷ now (slots .entry) ∷ now (sizes .entry) ∷ now (marks .entry) ∷ now (names .entry) ∷ now (parents .entry) ∷ now (levels .entry) ∷ now (shares .entry) ∷ now (newest .entry) ∷ now (oldest .entry) ∷ now (owners .entry) ∷ now (taken .entry) ∷ []) ⌝ }
+{
+    held(
+        numbers,
+        widths,
+        slots,
+        sizes,
+        marks,
+        names,
+        parents,
+        levels,
+        shares,
+        newest,
+        oldest,
+        owners,
+        taken,
+    );
 }
 
 // The memory holds the state.
@@ -185,7 +220,7 @@ pub extern "C" fn region_store_call(
     ensures { λ _. ⌜ Called number a b c d (now (list .entry)) (now (numbers .entry) ∷ now (widths .entry) ∷ now (slots .entry) ∷ now (sizes .entry) ∷ now (marks .entry) ∷ now (names .entry) ∷ now (parents .entry) ∷ now (levels .entry) ∷ now (shares .entry) ∷ now (newest .entry) ∷ now (oldest .entry) ∷ now (owners .entry) ∷ now (taken .entry) ∷ []) (now (heap .entry)) (now (numbers .exit) ∷ now (widths .exit) ∷ now (slots .exit) ∷ now (sizes .exit) ∷ now (marks .exit) ∷ now (names .exit) ∷ now (parents .exit) ∷ now (levels .exit) ∷ now (shares .exit) ∷ now (newest .exit) ∷ now (oldest .exit) ∷ now (owners .exit) ∷ now (taken .exit) ∷ []) (now (heap .exit)) (now (reply .exit)) ⌝ }
 {
     let n = *numbers;
-    let s = held(
+    sized(
         n,
         widths,
         slots,
@@ -200,10 +235,40 @@ pub extern "C" fn region_store_call(
         owners,
         taken,
     );
-    let e = store::call(s, heap, number, a, b, c, d, list);
-    hold(
-        e.state,
-        numbers,
+    let mut standing = n[0];
+    let mut counted = n[1];
+    let mut declared = n[2];
+    let mut given = n[3];
+    let mut made = n[4];
+    let r = store::call_in(
+        &mut standing,
+        &mut counted,
+        &mut declared,
+        &mut given,
+        &mut made,
+        widths,
+        slots,
+        sizes,
+        marks,
+        names,
+        parents,
+        levels,
+        shares,
+        newest,
+        oldest,
+        owners,
+        taken,
+        heap,
+        number,
+        a,
+        b,
+        c,
+        d,
+        list,
+    );
+    let m = [standing, counted, declared, given, made];
+    sized(
+        m,
         widths,
         slots,
         sizes,
@@ -217,7 +282,8 @@ pub extern "C" fn region_store_call(
         owners,
         taken,
     );
-    *reply = [e.reply.refusal, e.reply.a, e.reply.b, e.reply.c, e.reply.d];
+    *numbers = m;
+    *reply = [r.refusal, r.a, r.b, r.c, r.d];
 }
 
 // The length of a part that has at most 16 words.

@@ -5,6 +5,7 @@ ghost use mathlib.Core.Path.{_≡_};
 ghost use mathlib.Core.List.{[]};
 ghost use Rattle.model.specs.Model.{put, get, view};
 ghost use Rattle.outcomes.specs.Outcome.{Outcome, answerOf, viewAnswer, store, refusal};
+ghost use Rattle.lent.specs.Lent.{InPlace, withMade, withStanding, withWidths, withSlots, withDeclared, withSizes, withMarks};
 ghost use Rattle.calls_words.specs.Words.{dataRefusal, viewRefusal};
 
 // 14 and 15 for word w of the object that v leads to, and 16 unless the word is data.
@@ -29,18 +30,28 @@ fn data_refusal<'a>(
 }
 
 // Document 01's call 15: a data word gets the value. The state stays as it is.
-pub fn put(s: State, heap: &mut [u32], slot: u32, w: u32, value: u32) -> Reply
-    ensures { λ r. ⌜ Outcome (put slot w value) (store s (now (heap .entry))) (answerOf r []) (store s (now (heap .exit))) ⌝ }
+pub fn put_in<'a>(
+    made: u32,
+    standing: u32,
+    declared: u32,
+    widths: &[u8; 32],
+    slots: &[u32; 256],
+    sizes: &'a [u8; 16],
+    marks: &'a [u8; 256],
+    heap: &mut [u32],
+    slot: u32,
+    w: u32,
+    value: u32,
+) -> Reply
+    ensures { λ r. ⌜ InPlace (put slot w value) (λ s. withMade made (withStanding standing (withWidths (now (widths .entry)) (withSlots (now (slots .entry)) (withDeclared declared (withSizes (now (sizes .entry)) (withMarks (now (marks .entry)) s))))))) (now (heap .entry)) r (λ s. s) (now (heap .exit)) ⌝ }
 {
-    let f = s.frames;
-    let g = checks::top_refusal(s.pages.made, heap.len(), f.standing, &f.widths, slot, slot);
+    let g = checks::top_refusal(made, heap.len(), standing, widths, slot, slot);
     if g != 0 {
         return checks::refused(g);
     }
-    let v = checks::top_slot(f.standing, &f.slots, slot);
-    let k = s.kinds;
+    let v = checks::top_slot(standing, slots, slot);
     let object = objects::object_of(heap, v);
-    let h = data_refusal(k.declared, &k.sizes, &k.marks, object, v, w);
+    let h = data_refusal(declared, sizes, marks, object, v, w);
     if h != 0 {
         return checks::refused(h);
     }
@@ -49,18 +60,27 @@ pub fn put(s: State, heap: &mut [u32], slot: u32, w: u32, value: u32) -> Reply
 }
 
 // Document 01's call 16: what a data word holds.
-pub fn get(s: State, heap: &[u32], slot: u32, w: u32) -> Reply
-    ensures { λ r. ⌜ Outcome (get slot w) (store s (now (heap .entry))) (answerOf r []) (store s (now (heap .entry))) ⌝ }
+pub fn get_in<'a>(
+    made: u32,
+    standing: u32,
+    declared: u32,
+    widths: &[u8; 32],
+    slots: &[u32; 256],
+    sizes: &'a [u8; 16],
+    marks: &'a [u8; 256],
+    heap: &[u32],
+    slot: u32,
+    w: u32,
+) -> Reply
+    ensures { λ r. ⌜ InPlace (get slot w) (λ s. withMade made (withStanding standing (withWidths (now (widths .entry)) (withSlots (now (slots .entry)) (withDeclared declared (withSizes (now (sizes .entry)) (withMarks (now (marks .entry)) s))))))) (now (heap .entry)) r (λ s. s) (now (heap .entry)) ⌝ }
 {
-    let f = s.frames;
-    let g = checks::top_refusal(s.pages.made, heap.len(), f.standing, &f.widths, slot, slot);
+    let g = checks::top_refusal(made, heap.len(), standing, widths, slot, slot);
     if g != 0 {
         return checks::refused(g);
     }
-    let v = checks::top_slot(f.standing, &f.slots, slot);
-    let k = s.kinds;
+    let v = checks::top_slot(standing, slots, slot);
     let object = objects::object_of(heap, v);
-    let h = data_refusal(k.declared, &k.sizes, &k.marks, object, v, w);
+    let h = data_refusal(declared, sizes, marks, object, v, w);
     if h != 0 {
         return checks::refused(h);
     }

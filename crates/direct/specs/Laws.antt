@@ -1,0 +1,2 @@
+-- Laws of direct calls. Proved: nothing here has to be believed.
+pub mod Direct

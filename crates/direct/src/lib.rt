@@ -1,0 +1,394 @@
+// The calls that a program makes most, for hosts in other languages: each by itself, on what it reads and writes of the state alone. The refusal is given, 0 where the call is accepted; a value, where there is one, is written, 0 where the call is refused.
+// Pointers are aligned and not null, also where a length is 0, lengths are true, and no two buffers overlap: that the host answers for, as in abi. A library of its own beside abi's, so that each call stands here once and is compiled into its function.
+ghost use Rattle.model.specs.Model.{newRegion, push, dropFrame, allocate, first, copy, fetch, clear, load, setPointer, put, get, delete};
+ghost use Rattle.lent.specs.Lent.{InPlace, withMade, withStanding, withCounted, withDeclared, withGiven, withWidths, withSlots, withSizes, withMarks, withNames, withParents, withLevels, withShares, withNewest, withOldest, withOwners, withTaken};
+ghost use Rattle.direct.specs.Direct.{bare, valued};
+
+// New region, on what it reads and writes alone.
+#[no_mangle]
+pub extern "C" fn region_store_new_region(
+    made: u32,
+    given: &mut u32,
+    names: &mut [u32; 64],
+    parents: &mut [u8; 64],
+    levels: &mut [u8; 64],
+    shares: &mut [u32; 256],
+    newest: &mut [u16; 64],
+    oldest: &mut [u32; 64],
+    heap: &[u32],
+    value: &mut u32,
+) -> u32
+    ensures { λ g. ⌜ InPlace newRegion (λ s. withMade made (withGiven (now (given .entry)) (withNames (now (names .entry)) (withParents (now (parents .entry)) (withLevels (now (levels .entry)) (withShares (now (shares .entry)) (withNewest (now (newest .entry)) (withOldest (now (oldest .entry)) s)))))))) (now (heap .entry)) (valued g (now (value .exit))) (λ s. withGiven (now (given .exit)) (withNames (now (names .exit)) (withParents (now (parents .exit)) (withLevels (now (levels .exit)) (withShares (now (shares .exit)) (withNewest (now (newest .exit)) (withOldest (now (oldest .exit)) s))))))) (now (heap .entry)) ⌝ }
+{
+    let r = calls_regions::new_region_in(
+        made,
+        given,
+        names,
+        parents,
+        levels,
+        shares,
+        newest,
+        oldest,
+        heap,
+    );
+    *value = r.a;
+    r.refusal
+}
+
+// Push, on what it reads and writes alone.
+#[no_mangle]
+pub extern "C" fn region_store_push(
+    made: u32,
+    standing: &mut u32,
+    widths: &mut [u8; 32],
+    slots: &mut [u32; 256],
+    heap: &[u32],
+    size: u32,
+    value: &mut u32,
+) -> u32
+    ensures { λ g. ⌜ InPlace (push size) (λ s. withMade made (withStanding (now (standing .entry)) (withWidths (now (widths .entry)) (withSlots (now (slots .entry)) s)))) (now (heap .entry)) (valued g (now (value .exit))) (λ s. withStanding (now (standing .exit)) (withWidths (now (widths .exit)) (withSlots (now (slots .exit)) s))) (now (heap .entry)) ⌝ }
+{
+    let r = calls_stack::push_in(made, standing, widths, slots, heap, size);
+    *value = r.a;
+    r.refusal
+}
+
+// Drop, on what it reads and writes alone.
+#[no_mangle]
+pub extern "C" fn region_store_drop<'a>(
+    made: u32,
+    standing: &mut u32,
+    counted: &mut u32,
+    widths: &'a [u8; 32],
+    slots: &'a [u32; 256],
+    shares: &mut [u32; 256],
+    owners: &'a [u8; 256],
+    heap: &[u32],
+    filler: u32,
+    value: &mut u32,
+) -> u32
+    ensures { λ g. ⌜ InPlace (dropFrame filler) (λ s. withMade made (withStanding (now (standing .entry)) (withCounted (now (counted .entry)) (withWidths (now (widths .entry)) (withSlots (now (slots .entry)) (withShares (now (shares .entry)) (withOwners (now (owners .entry)) s))))))) (now (heap .entry)) (valued g (now (value .exit))) (λ s. withStanding (now (standing .exit)) (withCounted (now (counted .exit)) (withShares (now (shares .exit)) s))) (now (heap .entry)) ⌝ }
+{
+    let r = calls_stack::drop_in(
+        made,
+        standing,
+        counted,
+        widths,
+        slots,
+        shares,
+        owners,
+        heap,
+        filler,
+    );
+    *value = r.a;
+    r.refusal
+}
+
+// Allocate, on what it reads and writes alone.
+#[no_mangle]
+pub extern "C" fn region_store_allocate(
+    made: u32,
+    standing: u32,
+    declared: u32,
+    widths: &[u8; 32],
+    slots: &mut [u32; 256],
+    sizes: &[u8; 16],
+    names: &[u32; 64],
+    newest: &mut [u16; 64],
+    oldest: &mut [u32; 64],
+    owners: &mut [u8; 256],
+    taken: &mut [u8; 256],
+    heap: &mut [u32],
+    slot: u32,
+    region: u32,
+    kind: u32,
+) -> u32
+    ensures { λ g. ⌜ InPlace (allocate slot region kind) (λ s. withMade made (withStanding standing (withDeclared declared (withWidths (now (widths .entry)) (withSizes (now (sizes .entry)) (withNames (now (names .entry)) (withSlots (now (slots .entry)) (withNewest (now (newest .entry)) (withOldest (now (oldest .entry)) (withOwners (now (owners .entry)) (withTaken (now (taken .entry)) s))))))))))) (now (heap .entry)) (bare g) (λ s. withSlots (now (slots .exit)) (withNewest (now (newest .exit)) (withOldest (now (oldest .exit)) (withOwners (now (owners .exit)) (withTaken (now (taken .exit)) s))))) (now (heap .exit)) ⌝ }
+{
+    let r = calls_allocate::allocate_in(
+        made,
+        standing,
+        declared,
+        widths,
+        slots,
+        sizes,
+        names,
+        newest,
+        oldest,
+        owners,
+        taken,
+        heap,
+        slot,
+        region,
+        kind,
+    );
+    r.refusal
+}
+
+// First, on what it reads and writes alone.
+#[no_mangle]
+pub extern "C" fn region_store_first(
+    made: u32,
+    standing: u32,
+    widths: &[u8; 32],
+    slots: &mut [u32; 256],
+    names: &[u32; 64],
+    oldest: &[u32; 64],
+    heap: &[u32],
+    slot: u32,
+    region: u32,
+) -> u32
+    ensures { λ g. ⌜ InPlace (first slot region) (λ s. withMade made (withStanding standing (withWidths (now (widths .entry)) (withSlots (now (slots .entry)) (withNames (now (names .entry)) (withOldest (now (oldest .entry)) s)))))) (now (heap .entry)) (bare g) (withSlots (now (slots .exit))) (now (heap .entry)) ⌝ }
+{
+    let r = calls_slots::first_in(
+        made,
+        standing,
+        widths,
+        slots,
+        names,
+        oldest,
+        heap,
+        slot,
+        region,
+    );
+    r.refusal
+}
+
+// Copy, on what it reads and writes alone.
+#[no_mangle]
+pub extern "C" fn region_store_copy(
+    made: u32,
+    standing: u32,
+    widths: &[u8; 32],
+    slots: &mut [u32; 256],
+    heap: &[u32],
+    from: u32,
+    to: u32,
+) -> u32
+    ensures { λ g. ⌜ InPlace (copy from to) (λ s. withMade made (withStanding standing (withWidths (now (widths .entry)) (withSlots (now (slots .entry)) s)))) (now (heap .entry)) (bare g) (withSlots (now (slots .exit))) (now (heap .entry)) ⌝ }
+{
+    let r = calls_slots::copy_in(made, standing, widths, slots, heap, from, to);
+    r.refusal
+}
+
+// Fetch, on what it reads and writes alone.
+#[no_mangle]
+pub extern "C" fn region_store_fetch(
+    made: u32,
+    standing: u32,
+    widths: &[u8; 32],
+    slots: &mut [u32; 256],
+    heap: &[u32],
+    from: u32,
+    to: u32,
+) -> u32
+    ensures { λ g. ⌜ InPlace (fetch from to) (λ s. withMade made (withStanding standing (withWidths (now (widths .entry)) (withSlots (now (slots .entry)) s)))) (now (heap .entry)) (bare g) (withSlots (now (slots .exit))) (now (heap .entry)) ⌝ }
+{
+    let r = calls_slots::fetch_in(made, standing, widths, slots, heap, from, to);
+    r.refusal
+}
+
+// Clear, on what it reads and writes alone.
+#[no_mangle]
+pub extern "C" fn region_store_clear(
+    made: u32,
+    standing: u32,
+    widths: &[u8; 32],
+    slots: &mut [u32; 256],
+    heap: &[u32],
+    slot: u32,
+) -> u32
+    ensures { λ g. ⌜ InPlace (clear slot) (λ s. withMade made (withStanding standing (withWidths (now (widths .entry)) (withSlots (now (slots .entry)) s)))) (now (heap .entry)) (bare g) (withSlots (now (slots .exit))) (now (heap .entry)) ⌝ }
+{
+    let r = calls_slots::clear_in(made, standing, widths, slots, heap, slot);
+    r.refusal
+}
+
+// Load, on what it reads and writes alone.
+#[no_mangle]
+pub extern "C" fn region_store_load<'a>(
+    made: u32,
+    standing: u32,
+    declared: u32,
+    widths: &[u8; 32],
+    slots: &mut [u32; 256],
+    sizes: &'a [u8; 16],
+    marks: &'a [u8; 256],
+    heap: &[u32],
+    slot: u32,
+    w: u32,
+    to: u32,
+) -> u32
+    ensures { λ g. ⌜ InPlace (load slot w to) (λ s. withMade made (withStanding standing (withWidths (now (widths .entry)) (withSlots (now (slots .entry)) (withDeclared declared (withSizes (now (sizes .entry)) (withMarks (now (marks .entry)) s))))))) (now (heap .entry)) (bare g) (withSlots (now (slots .exit))) (now (heap .entry)) ⌝ }
+{
+    let r = calls_pointers::load_in(
+        made,
+        standing,
+        declared,
+        widths,
+        slots,
+        sizes,
+        marks,
+        heap,
+        slot,
+        w,
+        to,
+    );
+    r.refusal
+}
+
+// Set pointer, on what it reads and writes alone.
+#[no_mangle]
+pub extern "C" fn region_store_set_pointer<'a>(
+    made: u32,
+    standing: u32,
+    declared: u32,
+    widths: &[u8; 32],
+    slots: &[u32; 256],
+    sizes: &'a [u8; 16],
+    marks: &'a [u8; 256],
+    names: &'a [u32; 64],
+    parents: &'a [u8; 64],
+    levels: &'a [u8; 64],
+    shares: &mut [u32; 256],
+    owners: &'a [u8; 256],
+    heap: &mut [u32],
+    slot: u32,
+    w: u32,
+    value: u32,
+    filler: u32,
+) -> u32
+    ensures { λ g. ⌜ InPlace (setPointer slot w value filler) (λ s. withMade made (withStanding standing (withWidths (now (widths .entry)) (withSlots (now (slots .entry)) (withDeclared declared (withSizes (now (sizes .entry)) (withMarks (now (marks .entry)) (withNames (now (names .entry)) (withParents (now (parents .entry)) (withLevels (now (levels .entry)) (withShares (now (shares .entry)) (withOwners (now (owners .entry)) s)))))))))))) (now (heap .entry)) (bare g) (withShares (now (shares .exit))) (now (heap .exit)) ⌝ }
+{
+    let r = calls_pointers::set_pointer_in(
+        made,
+        standing,
+        declared,
+        widths,
+        slots,
+        sizes,
+        marks,
+        names,
+        parents,
+        levels,
+        shares,
+        owners,
+        heap,
+        slot,
+        w,
+        value,
+        filler,
+    );
+    r.refusal
+}
+
+// Put, on what it reads and writes alone.
+#[no_mangle]
+pub extern "C" fn region_store_put<'a>(
+    made: u32,
+    standing: u32,
+    declared: u32,
+    widths: &[u8; 32],
+    slots: &[u32; 256],
+    sizes: &'a [u8; 16],
+    marks: &'a [u8; 256],
+    heap: &mut [u32],
+    slot: u32,
+    w: u32,
+    value: u32,
+) -> u32
+    ensures { λ g. ⌜ InPlace (put slot w value) (λ s. withMade made (withStanding standing (withWidths (now (widths .entry)) (withSlots (now (slots .entry)) (withDeclared declared (withSizes (now (sizes .entry)) (withMarks (now (marks .entry)) s))))))) (now (heap .entry)) (bare g) (λ s. s) (now (heap .exit)) ⌝ }
+{
+    let r = calls_words::put_in(
+        made,
+        standing,
+        declared,
+        widths,
+        slots,
+        sizes,
+        marks,
+        heap,
+        slot,
+        w,
+        value,
+    );
+    r.refusal
+}
+
+// Get, on what it reads and writes alone.
+#[no_mangle]
+pub extern "C" fn region_store_get<'a>(
+    made: u32,
+    standing: u32,
+    declared: u32,
+    widths: &[u8; 32],
+    slots: &[u32; 256],
+    sizes: &'a [u8; 16],
+    marks: &'a [u8; 256],
+    heap: &[u32],
+    slot: u32,
+    w: u32,
+    value: &mut u32,
+) -> u32
+    ensures { λ g. ⌜ InPlace (get slot w) (λ s. withMade made (withStanding standing (withWidths (now (widths .entry)) (withSlots (now (slots .entry)) (withDeclared declared (withSizes (now (sizes .entry)) (withMarks (now (marks .entry)) s))))))) (now (heap .entry)) (valued g (now (value .exit))) (λ s. s) (now (heap .entry)) ⌝ }
+{
+    let r = calls_words::get_in(
+        made,
+        standing,
+        declared,
+        widths,
+        slots,
+        sizes,
+        marks,
+        heap,
+        slot,
+        w,
+    );
+    *value = r.a;
+    r.refusal
+}
+
+// Delete, on what it reads and writes alone.
+#[no_mangle]
+pub extern "C" fn region_store_delete<'a>(
+    made: u32,
+    standing: u32,
+    counted: &mut u32,
+    declared: u32,
+    widths: &'a [u8; 32],
+    slots: &'a [u32; 256],
+    sizes: &'a [u8; 16],
+    marks: &'a [u8; 256],
+    names: &mut [u32; 64],
+    parents: &'a [u8; 64],
+    shares: &mut [u32; 256],
+    owners: &mut [u8; 256],
+    taken: &'a [u8; 256],
+    heap: &[u32],
+    region: u32,
+    filler: u32,
+    value: &mut u32,
+) -> u32
+    ensures { λ g. ⌜ InPlace (delete region filler) (λ s. withMade made (withStanding standing (withCounted (now (counted .entry)) (withDeclared declared (withWidths (now (widths .entry)) (withSlots (now (slots .entry)) (withSizes (now (sizes .entry)) (withMarks (now (marks .entry)) (withNames (now (names .entry)) (withParents (now (parents .entry)) (withShares (now (shares .entry)) (withOwners (now (owners .entry)) (withTaken (now (taken .entry)) s))))))))))))) (now (heap .entry)) (valued g (now (value .exit))) (λ s. withCounted (now (counted .exit)) (withNames (now (names .exit)) (withShares (now (shares .exit)) (withOwners (now (owners .exit)) s)))) (now (heap .entry)) ⌝ }
+{
+    let r = calls_delete::delete_in(
+        made,
+        standing,
+        counted,
+        declared,
+        widths,
+        slots,
+        sizes,
+        marks,
+        names,
+        parents,
+        shares,
+        owners,
+        taken,
+        heap,
+        region,
+        filler,
+    );
+    *value = r.a;
+    r.refusal
+}
