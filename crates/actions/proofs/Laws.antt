@@ -16,7 +16,7 @@ use Rattle.state.specs.declared.State.{State}
 use Rattle.state.specs.declared.Reply.{Reply}
 use Rattle.outcomes.specs.Store.{Store, kinds, slot}
 use Rattle.outcomes.specs.Outcome.{Outcome, MakeOutcome, Answered, Accepted, answerOf, store, refusal, viewAnswer}
-use Rattle.store.specs.Dispatch.{isCall, decoded, DispatchedBy, Dispatched}
+use Rattle.dispatch.specs.Dispatch.{isCall, decoded, DispatchedBy, Dispatched}
 use Rattle.script.specs.declared.Line.{Line}
 use Rattle.script.specs.Script.{fillers}
 use Rattle.numbers.specs.Numbers.{fillerPlace, wordsAfter}

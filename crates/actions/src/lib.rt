@@ -148,37 +148,7 @@ pub fn acted(
     if l.call == PAGES {
         let a = l.args;
         let w = cells::within(numbers::words_of(a[0]), memory.len());
-        let e = store::make(&mut memory[0..w]);
-        *standing = e.state.frames.standing;
-        *counted = e.state.frames.counted;
-        *declared = e.state.kinds.declared;
-        *given = e.state.regions.given;
-        *made = e.state.pages.made;
-        let widths_then = e.state.frames.widths;
-        *widths = widths_then;
-        let slots_then = e.state.frames.slots;
-        *slots = slots_then;
-        let sizes_then = e.state.kinds.sizes;
-        *sizes = sizes_then;
-        let marks_then = e.state.kinds.marks;
-        *marks = marks_then;
-        let names_then = e.state.regions.names;
-        *names = names_then;
-        let parents_then = e.state.regions.parents;
-        *parents = parents_then;
-        let levels_then = e.state.regions.levels;
-        *levels = levels_then;
-        let shares_then = e.state.regions.shares;
-        *shares = shares_then;
-        let newest_then = e.state.regions.newest;
-        *newest = newest_then;
-        let oldest_then = e.state.regions.oldest;
-        *oldest = oldest_then;
-        let owners_then = e.state.pages.owners;
-        *owners = owners_then;
-        let taken_then = e.state.pages.taken;
-        *taken = taken_then;
-        return e.reply;
+        return store::make_in(standing, counted, declared, given, made, widths, slots, sizes, marks, names, parents, levels, shares, newest, oldest, owners, taken, &mut memory[0..w]);
     }
     let w = cells::within(words, memory.len());
     called(

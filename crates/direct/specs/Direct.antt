@@ -10,7 +10,7 @@ use Rattle.state.specs.declared.Reply.{Reply}
 use Rattle.outcomes.specs.Shape.{Bits32}
 use Rattle.lent.specs.Lent.{InPlace}
 use Rattle.promises.specs.Promises.{Sent}
-use Rattle.store.specs.Dispatch.{isCall, decoded}
+use Rattle.dispatch.specs.Dispatch.{isCall, decoded}
 use Rattle.abi.specs.Memory.{HoldsState, Called, arraysOf, replyOf}
 
 -- the reply of a call that gives no value, by its refusal

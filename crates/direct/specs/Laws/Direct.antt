@@ -12,7 +12,7 @@ use Rattle.outcomes.specs.Shape.{Bits32, Sized, Shaped}
 use Rattle.lent.specs.Lent.{InPlace, withMade, withStanding, withWidths, withSlots}
 use Rattle.promises.specs.Promises.{Sent, KeepsShape}
 use Rattle.promises.specs.Laws.Keeps.{keeps-shape}
-use Rattle.store.specs.Dispatch.{isCall, decoded, DispatchedBy, Dispatched}
+use Rattle.dispatch.specs.Dispatch.{isCall, decoded, DispatchedBy, Dispatched}
 use Rattle.abi.specs.Memory.{arraysOf, OfSizes, sizes, HoldsState, Called, replyOf}
 use Rattle.direct.specs.Direct.{DirectCalled, bare}
 

@@ -1,11 +1,11 @@
 use mathlib.Core.List.{[]}
 use borrow.Author.Needs.{needs}
 use Rattle.state.specs.declared.State.{State}
-use Rattle.store.specs.Dispatch.{decoded}
+use Rattle.dispatch.specs.Dispatch.{decoded}
 use Rattle.lent.specs.Lent.{stateOf}
-use Rattle.store.proofs.Laws.{by-number}
-use Rattle.store.proofs.call_in.Statement.{statement}
-use Rattle.store.proofs.call_in.Tie as tie
+use Rattle.dispatch.proofs.Laws.{by-number}
+use Rattle.dispatch.proofs.call_in.Statement.{statement}
+use Rattle.dispatch.proofs.call_in.Tie as tie
 
 -- the state lent
 abbrev lent : tie.Start → State

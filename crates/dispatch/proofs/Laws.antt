@@ -13,7 +13,7 @@ use Rattle.state.specs.declared.Reply.{Reply}
 use Rattle.outcomes.specs.Store.{Store, slot}
 use Rattle.outcomes.specs.Outcome.{Accepted, answerOf, refusal, viewed}
 use Rattle.outcomes.specs.Laws.Steps.{by-refusal, by-effect}
-use Rattle.store.specs.Dispatch.{lastCall, isCall, decoded, OutcomeOf, DispatchedBy, Dispatched}
+use Rattle.dispatch.specs.Dispatch.{lastCall, isCall, decoded, OutcomeOf, DispatchedBy, Dispatched}
 
 -- n is none of the m numbers from 2 on, as the last arm of a match on it says
 abbrev pub NoneOf : ℕ → ℕ → Type 0
