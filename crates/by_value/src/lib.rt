@@ -2,8 +2,9 @@
 use state::Done;
 use state::Reply;
 use state::State;
-ghost use mathlib.Core.List.{[]};
-ghost use Rattle.model.specs.Model.{newRegion, push, dropFrame, allocate, first, copy, fetch, clear, load, setPointer, put, get, delete};
+ghost use mathlib.Core.List.{List, []};
+ghost use Prim.Native.Nat.{ℕ};
+ghost use Rattle.model.specs.Model.{newRegion, push, dropFrame, allocate, first, copy, fetch, clear, load, setPointer, put, get, same, about, report, totals, delete, locate, ask};
 ghost use Rattle.outcomes.specs.Outcome.{Outcome, answerOf, store};
 pub use calls_make::declare;
 pub use calls_make::make;
@@ -292,11 +293,81 @@ pub fn get(s: State, heap: &[u32], slot: u32, w: u32) -> Reply
     )
 }
 
-pub use calls_about::about;
-pub use calls_about::same;
-pub use calls_about::totals;
+pub fn same(s: State, heap: &[u32], a: u32, b: u32) -> Reply
+    ensures { λ r. ⌜ Outcome (same a b) (store s (now (heap .entry))) (answerOf r []) (store s (now (heap .entry))) ⌝ }
+{
+    let widths = s.frames.widths;
+    let slots = s.frames.slots;
+    calls_about::same_in(
+        s.pages.made,
+        s.frames.standing,
+        &widths,
+        &slots,
+        heap,
+        a,
+        b,
+    )
+}
+
+pub fn about(s: State, heap: &[u32], slot: u32) -> Reply
+    ensures { λ r. ⌜ Outcome (about slot) (store s (now (heap .entry))) (answerOf r []) (store s (now (heap .entry))) ⌝ }
+{
+    let widths = s.frames.widths;
+    let slots = s.frames.slots;
+    let names = s.regions.names;
+    let owners = s.pages.owners;
+    calls_about::about_in(
+        s.pages.made,
+        s.frames.standing,
+        &widths,
+        &slots,
+        &names,
+        &owners,
+        heap,
+        slot,
+    )
+}
+
+pub fn totals(s: State) -> Reply
+    ensures { λ r. ⌜ ((heap : List ℕ) → Outcome totals (store s heap) (answerOf r []) (store s heap)) ⌝ }
+{
+    let names = s.regions.names;
+    let owners = s.pages.owners;
+    calls_about::totals_in(
+        s.pages.made,
+        s.frames.standing,
+        s.frames.counted,
+        &names,
+        &owners,
+    )
+}
+
 pub use calls_audit::audit;
-pub use calls_report::report;
+
+pub fn report(s: State, heap: &[u32], region: u32) -> Reply
+    ensures { λ r. ⌜ Outcome (report region) (store s (now (heap .entry))) (answerOf r []) (store s (now (heap .entry))) ⌝ }
+{
+    let widths = s.frames.widths;
+    let slots = s.frames.slots;
+    let names = s.regions.names;
+    let parents = s.regions.parents;
+    let shares = s.regions.shares;
+    let owners = s.pages.owners;
+    calls_report::report_in(
+        s.pages.made,
+        s.frames.standing,
+        s.frames.counted,
+        &widths,
+        &slots,
+        &names,
+        &parents,
+        &shares,
+        &owners,
+        heap,
+        region,
+    )
+}
+
 pub use calls_words::view;
 pub use calls_words::view_refusal;
 
@@ -337,5 +408,19 @@ pub fn delete(s: State, heap: &[u32], region: u32, filler: u32) -> Done
     Done { state: t, reply: r }
 }
 
-pub use calls_about::locate;
+pub fn locate(s: State, heap: &[u32], slot: u32) -> Reply
+    ensures { λ r. ⌜ Outcome (ask (locate slot)) (store s (now (heap .entry))) (answerOf r []) (store s (now (heap .entry))) ⌝ }
+{
+    let widths = s.frames.widths;
+    let slots = s.frames.slots;
+    calls_about::locate_in(
+        s.pages.made,
+        s.frames.standing,
+        &widths,
+        &slots,
+        heap,
+        slot,
+    )
+}
+
 pub use calls_delete_all::delete_all;
