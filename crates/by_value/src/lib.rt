@@ -1,13 +1,106 @@
 // The calls by value, as document 01 has them: each takes the state apart, lends what its call in place reads and changes, and lays back what that changed. No rule stands here.
+use frames::Frames;
+use kinds::Kinds;
+use pages::Pages;
+use regions::Regions;
 use state::Done;
 use state::Reply;
 use state::State;
 ghost use mathlib.Core.List.{List, []};
 ghost use Prim.Native.Nat.{ℕ};
-ghost use Rattle.model.specs.Model.{newRegion, push, dropFrame, allocate, first, copy, fetch, clear, load, setPointer, put, get, same, about, report, totals, delete, locate, ask};
-ghost use Rattle.outcomes.specs.Outcome.{Outcome, answerOf, store};
-pub use calls_make::declare;
-pub use calls_make::make;
+ghost use Rattle.model.specs.Model.{declare, newRegion, subregion, push, dropFrame, handBack, allocate, first, copy, fetch, clear, load, setPointer, put, get, same, about, report, totals, delete, locate, ask};
+ghost use Rattle.outcomes.specs.Outcome.{Outcome, MakeOutcome, answerOf, store};
+
+pub fn make(heap: &mut [u32]) -> Done
+    ensures { λ r. ⌜ MakeOutcome (now (heap .entry)) (answerOf (r .reply) []) (store (r .state) (now (heap .exit))) ⌝ }
+{
+    let mut standing = 0;
+    let mut counted = 0;
+    let mut declared = 0;
+    let mut given = 0;
+    let mut made = 0;
+    let mut widths = [0; 32];
+    let mut slots = [0; 256];
+    let mut sizes = [0; 16];
+    let mut marks = [0; 256];
+    let mut names = [0; 64];
+    let mut parents = [0; 64];
+    let mut levels = [0; 64];
+    let mut shares = [0; 256];
+    let mut newest = [0; 64];
+    let mut oldest = [0; 64];
+    let mut owners = [0; 256];
+    let mut taken = [0; 256];
+    let r = calls_make::make_in(
+        &mut standing,
+        &mut counted,
+        &mut declared,
+        &mut given,
+        &mut made,
+        &mut widths,
+        &mut slots,
+        &mut sizes,
+        &mut marks,
+        &mut names,
+        &mut parents,
+        &mut levels,
+        &mut shares,
+        &mut newest,
+        &mut oldest,
+        &mut owners,
+        &mut taken,
+        heap,
+    );
+    Done {
+        state: State {
+            frames: Frames {
+                standing: standing,
+                counted: counted,
+                widths: widths,
+                slots: slots,
+            },
+            kinds: Kinds {
+                declared: declared,
+                sizes: sizes,
+                marks: marks,
+            },
+            regions: Regions {
+                given: given,
+                names: names,
+                parents: parents,
+                levels: levels,
+                shares: shares,
+                newest: newest,
+                oldest: oldest,
+            },
+            pages: Pages {
+                made: made,
+                owners: owners,
+                taken: taken,
+            },
+        },
+        reply: r,
+    }
+}
+
+pub fn declare(s: State, heap: &[u32], marks: &[u32]) -> Done
+    ensures { λ r. ⌜ Outcome (declare (now (marks .entry))) (store s (now (heap .entry))) (answerOf (r .reply) []) (store (r .state) (now (heap .entry))) ⌝ }
+{
+    let mut t = s;
+    let mut declared = t.kinds.declared;
+    let mut kept = t.kinds.marks;
+    let r = calls_make::declare_in(
+        t.pages.made,
+        &mut declared,
+        &mut t.kinds.sizes,
+        &mut kept,
+        heap,
+        marks,
+    );
+    t.kinds.declared = declared;
+    lent::lay_pages(&mut t.kinds.marks, &kept);
+    Done { state: t, reply: r }
+}
 
 pub fn new_region(s: State, heap: &[u32]) -> Done
     ensures { λ r. ⌜ Outcome newRegion (store s (now (heap .entry))) (answerOf (r .reply) []) (store (r .state) (now (heap .entry))) ⌝ }
@@ -39,7 +132,36 @@ pub fn new_region(s: State, heap: &[u32]) -> Done
     Done { state: t, reply: r }
 }
 
-pub use calls_regions::subregion;
+pub fn subregion(s: State, heap: &[u32], above: u32) -> Done
+    ensures { λ r. ⌜ Outcome (subregion above) (store s (now (heap .entry))) (answerOf (r .reply) []) (store (r .state) (now (heap .entry))) ⌝ }
+{
+    let mut t = s;
+    let mut given = t.regions.given;
+    let mut names = t.regions.names;
+    let mut parents = t.regions.parents;
+    let mut levels = t.regions.levels;
+    let mut newest = t.regions.newest;
+    let mut oldest = t.regions.oldest;
+    let r = calls_regions::subregion_in(
+        t.pages.made,
+        &mut given,
+        &mut names,
+        &mut parents,
+        &mut levels,
+        &mut t.regions.shares,
+        &mut newest,
+        &mut oldest,
+        heap,
+        above,
+    );
+    t.regions.given = given;
+    lent::lay_words(&mut t.regions.names, &names);
+    lent::lay_bytes(&mut t.regions.parents, &parents);
+    lent::lay_bytes(&mut t.regions.levels, &levels);
+    lent::lay_halves(&mut t.regions.newest, &newest);
+    lent::lay_words(&mut t.regions.oldest, &oldest);
+    Done { state: t, reply: r }
+}
 
 pub fn push(s: State, heap: &[u32], slots: u32) -> Done
     ensures { λ r. ⌜ Outcome (push slots) (store s (now (heap .entry))) (answerOf (r .reply) []) (store (r .state) (now (heap .entry))) ⌝ }
@@ -85,7 +207,33 @@ pub fn drop(s: State, heap: &[u32], filler: u32) -> Done
     Done { state: t, reply: r }
 }
 
-pub use calls_stack::hand_back;
+pub fn hand_back(s: State, heap: &[u32], slot: u32, beneath: u32, filler: u32) -> Done
+    ensures { λ r. ⌜ Outcome (handBack slot beneath filler) (store s (now (heap .entry))) (answerOf (r .reply) []) (store (r .state) (now (heap .entry))) ⌝ }
+{
+    let mut t = s;
+    let mut standing = t.frames.standing;
+    let mut counted = t.frames.counted;
+    let widths = t.frames.widths;
+    let mut slots = t.frames.slots;
+    let owners = t.pages.owners;
+    let r = calls_stack::hand_back_in(
+        t.pages.made,
+        &mut standing,
+        &mut counted,
+        &widths,
+        &mut slots,
+        &mut t.regions.shares,
+        &owners,
+        heap,
+        slot,
+        beneath,
+        filler,
+    );
+    t.frames.standing = standing;
+    t.frames.counted = counted;
+    lent::lay_slots(&mut t.frames.slots, &slots);
+    Done { state: t, reply: r }
+}
 
 pub fn allocate(s: State, heap: &mut [u32], slot: u32, region: u32, kind: u32) -> Done
     ensures { λ r. ⌜ Outcome (allocate slot region kind) (store s (now (heap .entry))) (answerOf (r .reply) []) (store (r .state) (now (heap .exit))) ⌝ }

@@ -14,35 +14,33 @@ use Rattle.outcomes.specs.Outcome.{refusal, checks, badLength, Accepted}
 use Rattle.outcomes.specs.Laws.Steps.{by-refusal, by-effect}
 use Rattle.calls_make.specs.Tests.{declareTests}
 use Rattle.calls_make.proofs.Laws.{declare-passed}
-use Rattle.calls_make.proofs.declare.Statement.{statement}
-use Rattle.calls_make.proofs.declare.Tie as tie
+use Rattle.calls_make.proofs.declare_in.Statement.{statement}
+use Rattle.calls_make.proofs.declare_in.Tie as tie
 
 tests : (S : Store) (ms : List ℕ) → refusal S (declare ms) ≡ reason (declareTests ((pages S) .made) (length (S .heap)) ((kinds S) .declared) ms)
 unfolding refusal checks badLength wrongLength declareTests
 tests S ms = refl
 
 returns : tie.Need-returns
-returns c = by-refusal _ _ _ _ _ (tests _ _ ∙ sym (c .before .before .declare-refusal .ensures)) (c .before .if1 .taken) (c .refused .ensures) refl
+returns c s = by-refusal _ _ _ _ _ (tests _ _ ∙ sym (c .before .before .declare-refusal .ensures)) (c .before .if1 .taken) (c .refused .ensures) refl
 
 -- the tests passed: at most 16 marks, and a kind below the 16th
 kind-fits : tie.Need-add-kind
 kind-fits c = omega (arith, declare-passed _ _ _ _ _ (c .before .declare-refusal .ensures) (c .if1 .left) .1)
 
 size-fits : tie.Need-cast-put-size
-size-fits c = let t = c .before in omega (arith, marks-right _ (declare-passed _ _ _ _ _ (t .before .declare-refusal .ensures) (t .if1 .left) .0) .0)
+size-fits c = omega (arith, marks-right _ (declare-passed _ _ _ _ _ (c .before .before .declare-refusal .ensures) (c .before .if1 .left) .0) .0)
 
 place-fits : tie.Need-mul-put-marks
-place-fits c = let t = c .before .before .before in omega (arith, declare-passed _ _ _ _ _ (t .before .declare-refusal .ensures) (t .if1 .left) .1)
+place-fits c = omega (arith, declare-passed _ _ _ _ _ (c .before .before .before .before .declare-refusal .ensures) (c .before .before .before .if1 .left) .1)
 
 returns-2 : tie.Need-returns-2
 unfolding Accepted withKind
-returns-2 c =
-    let k = c .before .before in
-    let p = k .before .before in
-    let t = p .before .before in
-    let g = t .before .declare-refusal .ensures in
-    let ms = marks-right _ (declare-passed _ _ _ _ _ g (t .if1 .left) .0) .1 in
-    by-effect _ _ _ _ (tests _ _ ∙ sym g ∙ t .if1 .left) (c .gives .ensures, rw (k .put-marks .ensures, p .put-size .ensures, ms))
+returns-2 c s =
+    let g = c .before .before .before .before .before .before .declare-refusal .ensures in
+    let t = c .before .before .before .before .before .if1 .left in
+    let ms = marks-right _ (declare-passed _ _ _ _ _ g t .0) .1 in
+    by-effect _ _ _ _ (tests _ _ ∙ sym g ∙ t) (c .gives .ensures, rw (c .before .put-marks .ensures, c .before .before .before .put-size .ensures, ms))
 
-pub declare-spec : {M : Type 1} → statement M
-declare-spec = tie.close (tie.spec (λ c κs. search needs) (λ c κs. search needs) returns kind-fits size-fits (λ c κs. search needs) place-fits (λ c κs. search needs) (λ c κs. search needs) returns-2)
+pub declare-in-spec : {M : Type 1} → statement M
+declare-in-spec = tie.close (tie.spec (λ c κs. search needs) (λ c κs. search needs) returns kind-fits size-fits (λ c κs. search needs) place-fits (λ c κs. search needs) (λ c κs. search needs) returns-2)
