@@ -25,6 +25,7 @@ pub use by_value::subregion;
 pub use by_value::totals;
 pub use by_value::view;
 pub use by_value::view_refusal;
+pub use calls_words::view_in;
 use frames::Frames;
 use kinds::Kinds;
 use pages::Pages;
