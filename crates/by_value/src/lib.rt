@@ -6,10 +6,12 @@ use regions::Regions;
 use state::Done;
 use state::Reply;
 use state::State;
+ghost use mathlib.Core.Path.{_≡_};
 ghost use mathlib.Core.List.{List, []};
 ghost use Prim.Native.Nat.{ℕ};
-ghost use Rattle.model.specs.Model.{declare, newRegion, subregion, push, dropFrame, handBack, allocate, first, copy, fetch, clear, load, setPointer, put, get, same, about, report, totals, delete, locate, ask};
-ghost use Rattle.outcomes.specs.Outcome.{Outcome, MakeOutcome, answerOf, store};
+ghost use Rattle.model.specs.Model.{declare, newRegion, subregion, push, dropFrame, handBack, allocate, first, copy, fetch, clear, load, setPointer, put, get, view, same, about, report, totals, audit, delete, locate, ask};
+ghost use Rattle.outcomes.specs.Shape.{Bits32, Sized, Shaped};
+ghost use Rattle.outcomes.specs.Outcome.{Outcome, MakeOutcome, answerOf, viewAnswer, store, refusal};
 
 pub fn make(heap: &mut [u32]) -> Done
     ensures { λ r. ⌜ MakeOutcome (now (heap .entry)) (answerOf (r .reply) []) (store (r .state) (now (heap .exit))) ⌝ }
@@ -446,15 +448,7 @@ pub fn same(s: State, heap: &[u32], a: u32, b: u32) -> Reply
 {
     let widths = s.frames.widths;
     let slots = s.frames.slots;
-    calls_about::same_in(
-        s.pages.made,
-        s.frames.standing,
-        &widths,
-        &slots,
-        heap,
-        a,
-        b,
-    )
+    calls_about::same_in(s.pages.made, s.frames.standing, &widths, &slots, heap, a, b)
 }
 
 pub fn about(s: State, heap: &[u32], slot: u32) -> Reply
@@ -490,8 +484,6 @@ pub fn totals(s: State) -> Reply
     )
 }
 
-pub use calls_audit::audit;
-
 pub fn report(s: State, heap: &[u32], region: u32) -> Reply
     ensures { λ r. ⌜ Outcome (report region) (store s (now (heap .entry))) (answerOf r []) (store s (now (heap .entry))) ⌝ }
 {
@@ -516,8 +508,102 @@ pub fn report(s: State, heap: &[u32], region: u32) -> Reply
     )
 }
 
-pub use calls_words::view;
-pub use calls_words::view_refusal;
+// The contract says too what demand 3 asks of audited memory beside the answer, the lengths of the state's arrays; and that the memory is of the language's types where the heap's words are.
+// `arrays_shaped` does nothing: the types give that.
+pub fn audit(s: State, heap: &[u32]) -> Reply
+    ensures { λ r. ⌜ Outcome audit (store s (now (heap .entry))) (answerOf r []) (store s (now (heap .entry))) × Sized (store s (now (heap .entry))) × (Bits32 (now (heap .entry)) → Shaped (store s (now (heap .entry)))) ⌝ }
+{
+    let f = s.frames;
+    let k = s.kinds;
+    let g = s.regions;
+    let p = s.pages;
+    shapes::arrays_shaped(
+        f.standing,
+        f.counted,
+        k.declared,
+        g.given,
+        p.made,
+        f.widths,
+        f.slots,
+        k.sizes,
+        k.marks,
+        g.names,
+        g.parents,
+        g.levels,
+        g.shares,
+        g.newest,
+        g.oldest,
+        p.owners,
+        p.taken,
+    );
+    calls_audit::audit_in(
+        p.made,
+        f.standing,
+        f.counted,
+        k.declared,
+        g.given,
+        &f.widths,
+        &f.slots,
+        &k.sizes,
+        &k.marks,
+        &g.names,
+        &g.parents,
+        &g.levels,
+        &g.shares,
+        &g.newest,
+        &g.oldest,
+        &p.owners,
+        &p.taken,
+        heap,
+    )
+}
+
+// View's check, beside view itself.
+pub fn view_refusal(s: State, heap: &[u32], slot: u32) -> u32
+    ensures { λ r. ⌜ r ≡ refusal (store s (now (heap .entry))) (view slot) ⌝ }
+{
+    let widths = s.frames.widths;
+    let slots = s.frames.slots;
+    let sizes = s.kinds.sizes;
+    let marks = s.kinds.marks;
+    let v = calls_words::view_in(
+        s.pages.made,
+        s.frames.standing,
+        s.kinds.declared,
+        &widths,
+        &slots,
+        &sizes,
+        &marks,
+        heap,
+        slot,
+    );
+    v.refusal
+}
+
+// The object's part of the heap itself, which begins at its word 0; empty where view_refusal refuses.
+pub fn view<'a>(s: State, heap: &'a [u32], slot: u32) -> &'a [u32]
+    ensures { λ r. ⌜ Outcome (view slot) (store s (now (heap .entry))) (viewAnswer (store s (now (heap .entry))) slot (now r)) (store s (now (heap .entry))) ⌝ }
+{
+    let widths = s.frames.widths;
+    let slots = s.frames.slots;
+    let sizes = s.kinds.sizes;
+    let marks = s.kinds.marks;
+    let v = calls_words::view_in(
+        s.pages.made,
+        s.frames.standing,
+        s.kinds.declared,
+        &widths,
+        &slots,
+        &sizes,
+        &marks,
+        heap,
+        slot,
+    );
+    let a = v.place as usize;
+    let n = v.count as usize;
+    let b = a + n;
+    &heap[a..b]
+}
 
 pub fn delete(s: State, heap: &[u32], region: u32, filler: u32) -> Done
     ensures { λ r. ⌜ Outcome (delete region filler) (store s (now (heap .entry))) (answerOf (r .reply) []) (store (r .state) (now (heap .entry))) ⌝ }
@@ -561,14 +647,7 @@ pub fn locate(s: State, heap: &[u32], slot: u32) -> Reply
 {
     let widths = s.frames.widths;
     let slots = s.frames.slots;
-    calls_about::locate_in(
-        s.pages.made,
-        s.frames.standing,
-        &widths,
-        &slots,
-        heap,
-        slot,
-    )
+    calls_about::locate_in(s.pages.made, s.frames.standing, &widths, &slots, heap, slot)
 }
 
 pub use calls_delete_all::delete_all;

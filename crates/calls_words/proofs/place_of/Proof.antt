@@ -1,6 +1,6 @@
 use borrow.Author.Tests.{eq-eqb, ne-eqb}
-use Rattle.abi.proofs.place_of.Statement.{statement}
-use Rattle.abi.proofs.place_of.Tie as tie
+use Rattle.calls_words.proofs.place_of.Statement.{statement}
+use Rattle.calls_words.proofs.place_of.Tie as tie
 
 returns : tie.Need-returns
 returns c = simp (eq-eqb _ _ (c .if1 .taken))
