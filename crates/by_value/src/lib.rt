@@ -298,15 +298,7 @@ pub fn same(s: State, heap: &[u32], a: u32, b: u32) -> Reply
 {
     let widths = s.frames.widths;
     let slots = s.frames.slots;
-    calls_about::same_in(
-        s.pages.made,
-        s.frames.standing,
-        &widths,
-        &slots,
-        heap,
-        a,
-        b,
-    )
+    calls_about::same_in(s.pages.made, s.frames.standing, &widths, &slots, heap, a, b)
 }
 
 pub fn about(s: State, heap: &[u32], slot: u32) -> Reply
@@ -413,14 +405,7 @@ pub fn locate(s: State, heap: &[u32], slot: u32) -> Reply
 {
     let widths = s.frames.widths;
     let slots = s.frames.slots;
-    calls_about::locate_in(
-        s.pages.made,
-        s.frames.standing,
-        &widths,
-        &slots,
-        heap,
-        slot,
-    )
+    calls_about::locate_in(s.pages.made, s.frames.standing, &widths, &slots, heap, slot)
 }
 
 pub use calls_delete_all::delete_all;
