@@ -3,7 +3,7 @@ use state::Done;
 use state::Reply;
 use state::State;
 ghost use mathlib.Core.List.{[]};
-ghost use Rattle.model.specs.Model.{newRegion, push, dropFrame, allocate, first, copy, fetch, clear, load, setPointer, put, get, delete};
+ghost use Rattle.model.specs.Model.{newRegion, push, dropFrame, allocate, first, copy, fetch, clear, load, setPointer, put, get, delete, deleteAll};
 ghost use Rattle.outcomes.specs.Outcome.{Outcome, answerOf, store};
 pub use calls_make::declare;
 pub use calls_make::make;
@@ -338,4 +338,40 @@ pub fn delete(s: State, heap: &[u32], region: u32, filler: u32) -> Done
 }
 
 pub use calls_about::locate;
-pub use calls_delete_all::delete_all;
+
+pub fn delete_all(s: State, heap: &[u32], list: &[u32], filler: u32) -> Done
+    ensures { λ r. ⌜ Outcome (deleteAll (now (list .entry)) filler) (store s (now (heap .entry))) (answerOf (r .reply) []) (store (r .state) (now (heap .entry))) ⌝ }
+{
+    let mut t = s;
+    let mut counted = t.frames.counted;
+    let widths = t.frames.widths;
+    let slots = t.frames.slots;
+    let sizes = t.kinds.sizes;
+    let marks = t.kinds.marks;
+    let mut names = t.regions.names;
+    let parents = t.regions.parents;
+    let mut owners = t.pages.owners;
+    let taken = t.pages.taken;
+    let r = calls_delete_all::delete_all_in(
+        t.pages.made,
+        t.frames.standing,
+        &mut counted,
+        t.kinds.declared,
+        &widths,
+        &slots,
+        &sizes,
+        &marks,
+        &mut names,
+        &parents,
+        &mut t.regions.shares,
+        &mut owners,
+        &taken,
+        heap,
+        list,
+        filler,
+    );
+    t.frames.counted = counted;
+    lent::lay_words(&mut t.regions.names, &names);
+    lent::lay_pages(&mut t.pages.owners, &owners);
+    Done { state: t, reply: r }
+}
