@@ -11,7 +11,7 @@ use Rattle.state.specs.declared.State.{State}
 use Rattle.state.specs.declared.Reply.{Reply}
 use Rattle.outcomes.specs.Store.{slot}
 use Rattle.outcomes.specs.Outcome.{Outcome, MakeOutcome, answerOf, store}
-use Rattle.store.specs.Dispatch.{Dispatched}
+use Rattle.dispatch.specs.Dispatch.{Dispatched}
 
 -- the arrays of a state in the order of its parts, and before them its numbers, as one array
 abbrev pub arraysOf : State → List (List ℕ)
@@ -43,13 +43,9 @@ OfSizes [] (l ∷ ls) = ⊥
 OfSizes (p ∷ ps) [] = ⊥
 OfSizes (p ∷ ps) (l ∷ ls) = (length l ≡ p .1) × All (λ x. x < limit (p .0)) l × OfSizes ps ls
 
--- arrays of these sizes
-abbrev pub Fitting : List (List ℕ) → Type 0
-Fitting memory = OfSizes sizes memory
-
 -- the memory holds the state s, in arrays of these sizes
 unfoldable pub HoldsState : State → List (List ℕ) → Type 0
-HoldsState s memory = (memory ≡ arraysOf s) × Fitting memory
+HoldsState s memory = (memory ≡ arraysOf s) × OfSizes sizes memory
 
 -- the numbers that a host reads as the reply
 abbrev pub replyOf : Reply → List ℕ

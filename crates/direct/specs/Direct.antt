@@ -13,7 +13,7 @@ use Rattle.state.specs.declared.Reply.{Reply}
 use Rattle.outcomes.specs.Shape.{Bits32}
 use Rattle.lent.specs.Lent.{InPlace}
 use Rattle.promises.specs.Promises.{Sent}
-use Rattle.store.specs.Dispatch.{isCall, decoded}
+use Rattle.dispatch.specs.Dispatch.{isCall, decoded}
 use Rattle.abi.specs.Memory.{HoldsState, Called, arraysOf, replyOf}
 use Rattle.abi.specs.Hosts.{Request, Driven}
 

@@ -16,7 +16,7 @@ use Rattle.outcomes.specs.Store.{Store}
 use Rattle.lent.specs.Lent.{InPlace}
 use Rattle.promises.specs.Promises.{Sent, KeepsShape}
 use Rattle.promises.specs.Laws.Keeps.{keeps-shape}
-use Rattle.store.specs.Dispatch.{isCall, DispatchedBy, Dispatched}
+use Rattle.dispatch.specs.Dispatch.{isCall, DispatchedBy, Dispatched}
 use Rattle.abi.specs.Memory.{arraysOf, OfSizes, sizes, HoldsState}
 use Rattle.abi.specs.Hosts.{Request, Driven, ended, asked}
 use Rattle.direct.specs.Direct.{callOf, ByNumber, Directly, DirectCalled, Mixed, nothing, more, MixedDriven}
