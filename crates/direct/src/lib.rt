@@ -1,7 +1,8 @@
 // The calls that a program makes most, for hosts in other languages: each by itself, on what it reads and writes of the state alone. A function gives the refusal's number, 0 where the call was accepted, and writes its values, 0 where it was refused.
 // What a host answers for is the same as in abi: pointers are aligned and not null, also where a length is 0, lengths are true, and no two buffers overlap. A library of its own beside abi's: here each call stands once, and is compiled into its function.
-ghost use mathlib.Core.List.{[], _∷_};
-ghost use Rattle.model.specs.Model.{newRegion, push, dropFrame, allocate, first, copy, fetch, clear, load, setPointer, put, get, delete};
+ghost use mathlib.Core.List.{List, [], _∷_};
+ghost use Prim.Native.Nat.{ℕ};
+ghost use Rattle.model.specs.Model.{newRegion, push, dropFrame, handBack, allocate, first, copy, fetch, clear, load, setPointer, put, get, same, about, report, totals, delete};
 ghost use Rattle.lent.specs.Lent.{InPlace, withMade, withStanding, withCounted, withDeclared, withGiven, withWidths, withSlots, withSizes, withMarks, withNames, withParents, withLevels, withShares, withNewest, withOldest, withOwners, withTaken};
 ghost use Rattle.direct.specs.Direct.{replyWith};
 
@@ -21,7 +22,17 @@ pub extern "C" fn region_store_new_region(
 ) -> u32
     ensures { λ g. ⌜ InPlace newRegion (λ s. withMade made (withGiven (now (given .entry)) (withNames (now (names .entry)) (withParents (now (parents .entry)) (withLevels (now (levels .entry)) (withShares (now (shares .entry)) (withNewest (now (newest .entry)) (withOldest (now (oldest .entry)) s)))))))) (now (heap .entry)) (replyWith g (now (value .exit) ∷ [])) (λ s. withGiven (now (given .exit)) (withNames (now (names .exit)) (withParents (now (parents .exit)) (withLevels (now (levels .exit)) (withShares (now (shares .exit)) (withNewest (now (newest .exit)) (withOldest (now (oldest .exit)) s))))))) (now (heap .entry)) ⌝ }
 {
-    let r = calls_regions::new_region_in(made, given, names, parents, levels, shares, newest, oldest, heap);
+    let r = calls_regions::new_region_in(
+        made,
+        given,
+        names,
+        parents,
+        levels,
+        shares,
+        newest,
+        oldest,
+        heap,
+    );
     *value = r.a;
     r.refusal
 }
@@ -60,7 +71,52 @@ pub extern "C" fn region_store_drop<'a>(
 ) -> u32
     ensures { λ g. ⌜ InPlace (dropFrame filler) (λ s. withMade made (withStanding (now (standing .entry)) (withCounted (now (counted .entry)) (withWidths (now (widths .entry)) (withSlots (now (slots .entry)) (withShares (now (shares .entry)) (withOwners (now (owners .entry)) s))))))) (now (heap .entry)) (replyWith g (now (value .exit) ∷ [])) (λ s. withStanding (now (standing .exit)) (withCounted (now (counted .exit)) (withShares (now (shares .exit)) s))) (now (heap .entry)) ⌝ }
 {
-    let r = calls_stack::drop_in(made, standing, counted, widths, slots, shares, owners, heap, filler);
+    let r = calls_stack::drop_in(
+        made,
+        standing,
+        counted,
+        widths,
+        slots,
+        shares,
+        owners,
+        heap,
+        filler,
+    );
+    *value = r.a;
+    r.refusal
+}
+
+// Document 01's call 7, for a filler (document 02, card 5): the top frame goes, and what its slot held comes into the frame beneath.
+#[no_mangle]
+pub extern "C" fn region_store_hand_back<'a>(
+    made: u32,
+    standing: &mut u32,
+    counted: &mut u32,
+    widths: &'a [u8; 32],
+    slots: &mut [u32; 256],
+    shares: &mut [u32; 256],
+    owners: &'a [u8; 256],
+    heap: &[u32],
+    slot: u32,
+    beneath: u32,
+    filler: u32,
+    value: &mut u32,
+) -> u32
+    ensures { λ g. ⌜ InPlace (handBack slot beneath filler) (λ s. withMade made (withStanding (now (standing .entry)) (withCounted (now (counted .entry)) (withWidths (now (widths .entry)) (withSlots (now (slots .entry)) (withShares (now (shares .entry)) (withOwners (now (owners .entry)) s))))))) (now (heap .entry)) (replyWith g (now (value .exit) ∷ [])) (λ s. withStanding (now (standing .exit)) (withCounted (now (counted .exit)) (withSlots (now (slots .exit)) (withShares (now (shares .exit)) s)))) (now (heap .entry)) ⌝ }
+{
+    let r = calls_stack::hand_back_in(
+        made,
+        standing,
+        counted,
+        widths,
+        slots,
+        shares,
+        owners,
+        heap,
+        slot,
+        beneath,
+        filler,
+    );
     *value = r.a;
     r.refusal
 }
@@ -86,7 +142,23 @@ pub extern "C" fn region_store_allocate(
 ) -> u32
     ensures { λ g. ⌜ InPlace (allocate slot region kind) (λ s. withMade made (withStanding standing (withDeclared declared (withWidths (now (widths .entry)) (withSizes (now (sizes .entry)) (withNames (now (names .entry)) (withSlots (now (slots .entry)) (withNewest (now (newest .entry)) (withOldest (now (oldest .entry)) (withOwners (now (owners .entry)) (withTaken (now (taken .entry)) s))))))))))) (now (heap .entry)) (replyWith g []) (λ s. withSlots (now (slots .exit)) (withNewest (now (newest .exit)) (withOldest (now (oldest .exit)) (withOwners (now (owners .exit)) (withTaken (now (taken .exit)) s))))) (now (heap .exit)) ⌝ }
 {
-    let r = calls_allocate::allocate_in(made, standing, declared, widths, slots, sizes, names, newest, oldest, owners, taken, heap, slot, region, kind);
+    let r = calls_allocate::allocate_in(
+        made,
+        standing,
+        declared,
+        widths,
+        slots,
+        sizes,
+        names,
+        newest,
+        oldest,
+        owners,
+        taken,
+        heap,
+        slot,
+        region,
+        kind,
+    );
     r.refusal
 }
 
@@ -105,7 +177,17 @@ pub extern "C" fn region_store_first(
 ) -> u32
     ensures { λ g. ⌜ InPlace (first slot region) (λ s. withMade made (withStanding standing (withWidths (now (widths .entry)) (withSlots (now (slots .entry)) (withNames (now (names .entry)) (withOldest (now (oldest .entry)) s)))))) (now (heap .entry)) (replyWith g []) (withSlots (now (slots .exit))) (now (heap .entry)) ⌝ }
 {
-    let r = calls_slots::first_in(made, standing, widths, slots, names, oldest, heap, slot, region);
+    let r = calls_slots::first_in(
+        made,
+        standing,
+        widths,
+        slots,
+        names,
+        oldest,
+        heap,
+        slot,
+        region,
+    );
     r.refusal
 }
 
@@ -176,7 +258,19 @@ pub extern "C" fn region_store_load<'a>(
 ) -> u32
     ensures { λ g. ⌜ InPlace (load slot word to) (λ s. withMade made (withStanding standing (withWidths (now (widths .entry)) (withSlots (now (slots .entry)) (withDeclared declared (withSizes (now (sizes .entry)) (withMarks (now (marks .entry)) s))))))) (now (heap .entry)) (replyWith g []) (withSlots (now (slots .exit))) (now (heap .entry)) ⌝ }
 {
-    let r = calls_pointers::load_in(made, standing, declared, widths, slots, sizes, marks, heap, slot, word, to);
+    let r = calls_pointers::load_in(
+        made,
+        standing,
+        declared,
+        widths,
+        slots,
+        sizes,
+        marks,
+        heap,
+        slot,
+        word,
+        to,
+    );
     r.refusal
 }
 
@@ -203,7 +297,25 @@ pub extern "C" fn region_store_set_pointer<'a>(
 ) -> u32
     ensures { λ g. ⌜ InPlace (setPointer slot word value filler) (λ s. withMade made (withStanding standing (withWidths (now (widths .entry)) (withSlots (now (slots .entry)) (withDeclared declared (withSizes (now (sizes .entry)) (withMarks (now (marks .entry)) (withNames (now (names .entry)) (withParents (now (parents .entry)) (withLevels (now (levels .entry)) (withShares (now (shares .entry)) (withOwners (now (owners .entry)) s)))))))))))) (now (heap .entry)) (replyWith g []) (withShares (now (shares .exit))) (now (heap .exit)) ⌝ }
 {
-    let r = calls_pointers::set_pointer_in(made, standing, declared, widths, slots, sizes, marks, names, parents, levels, shares, owners, heap, slot, word, value, filler);
+    let r = calls_pointers::set_pointer_in(
+        made,
+        standing,
+        declared,
+        widths,
+        slots,
+        sizes,
+        marks,
+        names,
+        parents,
+        levels,
+        shares,
+        owners,
+        heap,
+        slot,
+        word,
+        value,
+        filler,
+    );
     r.refusal
 }
 
@@ -224,7 +336,19 @@ pub extern "C" fn region_store_put<'a>(
 ) -> u32
     ensures { λ g. ⌜ InPlace (put slot word number) (λ s. withMade made (withStanding standing (withWidths (now (widths .entry)) (withSlots (now (slots .entry)) (withDeclared declared (withSizes (now (sizes .entry)) (withMarks (now (marks .entry)) s))))))) (now (heap .entry)) (replyWith g []) (λ s. s) (now (heap .exit)) ⌝ }
 {
-    let r = calls_words::put_in(made, standing, declared, widths, slots, sizes, marks, heap, slot, word, number);
+    let r = calls_words::put_in(
+        made,
+        standing,
+        declared,
+        widths,
+        slots,
+        sizes,
+        marks,
+        heap,
+        slot,
+        word,
+        number,
+    );
     r.refusal
 }
 
@@ -245,8 +369,110 @@ pub extern "C" fn region_store_get<'a>(
 ) -> u32
     ensures { λ g. ⌜ InPlace (get slot word) (λ s. withMade made (withStanding standing (withWidths (now (widths .entry)) (withSlots (now (slots .entry)) (withDeclared declared (withSizes (now (sizes .entry)) (withMarks (now (marks .entry)) s))))))) (now (heap .entry)) (replyWith g (now (value .exit) ∷ [])) (λ s. s) (now (heap .entry)) ⌝ }
 {
-    let r = calls_words::get_in(made, standing, declared, widths, slots, sizes, marks, heap, slot, word);
+    let r = calls_words::get_in(
+        made,
+        standing,
+        declared,
+        widths,
+        slots,
+        sizes,
+        marks,
+        heap,
+        slot,
+        word,
+    );
     *value = r.a;
+    r.refusal
+}
+
+// Document 01's call 18: 1 where two slots lead to one object or are both null, else 0.
+#[no_mangle]
+pub extern "C" fn region_store_same(
+    made: u32,
+    standing: u32,
+    widths: &[u8; 32],
+    slots: &[u32; 256],
+    heap: &[u32],
+    slot: u32,
+    other: u32,
+    value: &mut u32,
+) -> u32
+    ensures { λ g. ⌜ InPlace (same slot other) (λ s. withMade made (withStanding standing (withWidths (now (widths .entry)) (withSlots (now (slots .entry)) s)))) (now (heap .entry)) (replyWith g (now (value .exit) ∷ [])) (λ s. s) (now (heap .entry)) ⌝ }
+{
+    let r = calls_about::same_in(made, standing, widths, slots, heap, slot, other);
+    *value = r.a;
+    r.refusal
+}
+
+// Document 01's call 19: the region and the kind of an object.
+#[no_mangle]
+pub extern "C" fn region_store_about(
+    made: u32,
+    standing: u32,
+    widths: &[u8; 32],
+    slots: &[u32; 256],
+    names: &[u32; 64],
+    owners: &[u8; 256],
+    heap: &[u32],
+    slot: u32,
+    values: &mut [u32; 2],
+) -> u32
+    ensures { λ g. ⌜ InPlace (about slot) (λ s. withMade made (withStanding standing (withWidths (now (widths .entry)) (withSlots (now (slots .entry)) (withNames (now (names .entry)) (withOwners (now (owners .entry)) s)))))) (now (heap .entry)) (replyWith g (now (values .exit))) (λ s. s) (now (heap .entry)) ⌝ }
+{
+    let r = calls_about::about_in(made, standing, widths, slots, names, owners, heap, slot);
+    *values = [r.a, r.b];
+    r.refusal
+}
+
+// Document 01's call 20: a region's stored count, outside pointers, pages and subregions.
+#[no_mangle]
+pub extern "C" fn region_store_report<'a>(
+    made: u32,
+    standing: u32,
+    counted: u32,
+    widths: &'a [u8; 32],
+    slots: &'a [u32; 256],
+    names: &'a [u32; 64],
+    parents: &'a [u8; 64],
+    shares: &[u32; 256],
+    owners: &'a [u8; 256],
+    heap: &[u32],
+    region: u32,
+    values: &mut [u32; 4],
+) -> u32
+    ensures { λ g. ⌜ InPlace (report region) (λ s. withMade made (withStanding standing (withCounted counted (withWidths (now (widths .entry)) (withSlots (now (slots .entry)) (withNames (now (names .entry)) (withParents (now (parents .entry)) (withShares (now (shares .entry)) (withOwners (now (owners .entry)) s))))))))) (now (heap .entry)) (replyWith g (now (values .exit))) (λ s. s) (now (heap .entry)) ⌝ }
+{
+    let r = calls_report::report_in(
+        made,
+        standing,
+        counted,
+        widths,
+        slots,
+        names,
+        parents,
+        shares,
+        owners,
+        heap,
+        region,
+    );
+    *values = [r.a, r.b, r.c, r.d];
+    r.refusal
+}
+
+// Document 01's call 21: free pages, live regions, frames standing and counted.
+#[no_mangle]
+pub extern "C" fn region_store_totals(
+    made: u32,
+    standing: u32,
+    counted: u32,
+    names: &[u32; 64],
+    owners: &[u8; 256],
+    values: &mut [u32; 4],
+) -> u32
+    ensures { λ g. ⌜ ((heap : List ℕ) → InPlace totals (λ s. withMade made (withStanding standing (withCounted counted (withNames (now (names .entry)) (withOwners (now (owners .entry)) s))))) heap (replyWith g (now (values .exit))) (λ s. s) heap) ⌝ }
+{
+    let r = calls_about::totals_in(made, standing, counted, names, owners);
+    *values = [r.a, r.b, r.c, r.d];
     r.refusal
 }
 
@@ -273,7 +499,24 @@ pub extern "C" fn region_store_delete<'a>(
 ) -> u32
     ensures { λ g. ⌜ InPlace (delete region filler) (λ s. withMade made (withStanding standing (withCounted (now (counted .entry)) (withDeclared declared (withWidths (now (widths .entry)) (withSlots (now (slots .entry)) (withSizes (now (sizes .entry)) (withMarks (now (marks .entry)) (withNames (now (names .entry)) (withParents (now (parents .entry)) (withShares (now (shares .entry)) (withOwners (now (owners .entry)) (withTaken (now (taken .entry)) s))))))))))))) (now (heap .entry)) (replyWith g (now (value .exit) ∷ [])) (λ s. withCounted (now (counted .exit)) (withNames (now (names .exit)) (withShares (now (shares .exit)) (withOwners (now (owners .exit)) s)))) (now (heap .entry)) ⌝ }
 {
-    let r = calls_delete::delete_in(made, standing, counted, declared, widths, slots, sizes, marks, names, parents, shares, owners, taken, heap, region, filler);
+    let r = calls_delete::delete_in(
+        made,
+        standing,
+        counted,
+        declared,
+        widths,
+        slots,
+        sizes,
+        marks,
+        names,
+        parents,
+        shares,
+        owners,
+        taken,
+        heap,
+        region,
+        filler,
+    );
     *value = r.a;
     r.refusal
 }
