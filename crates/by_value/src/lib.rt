@@ -9,7 +9,7 @@ use state::State;
 ghost use mathlib.Core.Path.{_≡_};
 ghost use mathlib.Core.List.{List, []};
 ghost use Prim.Native.Nat.{ℕ};
-ghost use Rattle.model.specs.Model.{declare, newRegion, subregion, push, dropFrame, handBack, allocate, first, copy, fetch, clear, load, setPointer, put, get, view, same, about, report, totals, audit, delete, locate, ask};
+ghost use Rattle.model.specs.Model.{declare, newRegion, subregion, push, dropFrame, handBack, allocate, first, copy, fetch, clear, load, setPointer, put, get, view, same, about, report, totals, audit, delete, deleteAll, locate, ask};
 ghost use Rattle.outcomes.specs.Shape.{Bits32, Sized, Shaped};
 ghost use Rattle.outcomes.specs.Outcome.{Outcome, MakeOutcome, answerOf, viewAnswer, store, refusal};
 
@@ -642,6 +642,43 @@ pub fn delete(s: State, heap: &[u32], region: u32, filler: u32) -> Done
     Done { state: t, reply: r }
 }
 
+pub fn delete_all(s: State, heap: &[u32], list: &[u32], filler: u32) -> Done
+    ensures { λ r. ⌜ Outcome (deleteAll (now (list .entry)) filler) (store s (now (heap .entry))) (answerOf (r .reply) []) (store (r .state) (now (heap .entry))) ⌝ }
+{
+    let mut t = s;
+    let mut counted = t.frames.counted;
+    let widths = t.frames.widths;
+    let slots = t.frames.slots;
+    let sizes = t.kinds.sizes;
+    let marks = t.kinds.marks;
+    let mut names = t.regions.names;
+    let parents = t.regions.parents;
+    let mut owners = t.pages.owners;
+    let taken = t.pages.taken;
+    let r = calls_delete_all::delete_all_in(
+        t.pages.made,
+        t.frames.standing,
+        &mut counted,
+        t.kinds.declared,
+        &widths,
+        &slots,
+        &sizes,
+        &marks,
+        &mut names,
+        &parents,
+        &mut t.regions.shares,
+        &mut owners,
+        &taken,
+        heap,
+        list,
+        filler,
+    );
+    t.frames.counted = counted;
+    lent::lay_words(&mut t.regions.names, &names);
+    lent::lay_pages(&mut t.pages.owners, &owners);
+    Done { state: t, reply: r }
+}
+
 pub fn locate(s: State, heap: &[u32], slot: u32) -> Reply
     ensures { λ r. ⌜ Outcome (ask (locate slot)) (store s (now (heap .entry))) (answerOf r []) (store s (now (heap .entry))) ⌝ }
 {
@@ -649,5 +686,3 @@ pub fn locate(s: State, heap: &[u32], slot: u32) -> Reply
     let slots = s.frames.slots;
     calls_about::locate_in(s.pages.made, s.frames.standing, &widths, &slots, heap, slot)
 }
-
-pub use calls_delete_all::delete_all;

@@ -17,8 +17,11 @@ returns c s = by-refusal _ _ _ _ _ (about-tests _ _ ∙ sym (c .before .before .
 returns-2 : tie.Need-returns-2
 unfolding Accepted slot slotAt topFrame ownerOf nameOf
 returns-2 c s =
-    by-effect _ _ _ _ (about-tests _ _ ∙ sym (c .before .before .before .before .before .before .before .before .before .before .top-refusal .ensures) ∙ c .before .before .before .before .before .before .before .before .before .if1 .left)
-    (c .gives .ensures ∙ rw (c .before .kind-of .ensures, c .before .before .object-of .ensures, object-header, c .before .before .before .name-of .ensures, c .before .before .before .before .owner-of .ensures, c .before .before .before .before .before .before .before .top-slot .ensures), refl)
+    let n = c .before .before .before in
+    let o = n .before in
+    let v = o .before .before .before in
+    by-effect _ _ _ _ (about-tests _ _ ∙ sym (v .before .before .before .top-refusal .ensures) ∙ v .before .before .if1 .left)
+    (c .gives .ensures ∙ rw (c .before .kind-of .ensures, c .before .before .object-of .ensures, object-header, n .name-of .ensures, o .owner-of .ensures, v .top-slot .ensures), refl)
 
 pub about-in-spec : {M : Type 1} → statement M
 about-in-spec = tie.close (tie.spec (λ c κs. search needs) (λ c κs. search needs) returns (λ c κs. search needs) (λ c κs. search needs) (λ c κs. search needs) (λ c κs. search needs) (λ c κs. search needs) (λ c κs. search needs) returns-2)

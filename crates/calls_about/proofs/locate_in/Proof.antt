@@ -14,8 +14,9 @@ returns c s = by-refusal _ _ _ _ _ (locate-tests _ _ ∙ sym (c .before .before 
 returns-2 : tie.Need-returns-2
 unfolding Accepted queryReply slot slotAt topFrame
 returns-2 c s =
-    by-effect _ _ _ _ (locate-tests _ _ ∙ sym (c .before .before .before .before .before .before .top-refusal .ensures) ∙ c .before .before .before .before .before .if1 .left)
-    (c .gives .ensures ∙ rw (c .before .word-of .ensures, c .before .before .page-of .ensures, c .before .before .before .top-slot .ensures), refl)
+    let v = c .before .before .before in
+    by-effect _ _ _ _ (locate-tests _ _ ∙ sym (v .before .before .before .top-refusal .ensures) ∙ v .before .before .if1 .left)
+    (c .gives .ensures ∙ rw (c .before .word-of .ensures, c .before .before .page-of .ensures, v .top-slot .ensures), refl)
 
 pub locate-in-spec : {M : Type 1} → statement M
 locate-in-spec = tie.close (tie.spec (λ c κs. search needs) (λ c κs. search needs) returns (λ c κs. search needs) (λ c κs. search needs) (λ c κs. search needs) (λ c κs. search needs) returns-2)

@@ -15,14 +15,18 @@ returns c s = by-refusal _ _ _ _ _ (same-tests _ _ _ ∙ sym (c .before .before 
 returns-2 : tie.Need-returns-2
 unfolding Accepted slot slotAt topFrame
 returns-2 c s =
-    by-effect _ _ _ _ (same-tests _ _ _ ∙ sym (c .before .before .before .before .before .before .before .top-refusal .ensures) ∙ c .before .before .before .before .before .before .if1 .left)
-    (c .gives .ensures ∙ rw (← c .before .before .before .before .top-slot .ensures, ← c .before .before .top-slot2 .ensures, eq-eqb _ _ (c .before .if2 .taken)), refl)
+    let y = c .before .before in
+    let x = y .before .before in
+    by-effect _ _ _ _ (same-tests _ _ _ ∙ sym (x .before .before .before .top-refusal .ensures) ∙ x .before .before .if1 .left)
+    (c .gives .ensures ∙ rw (← x .top-slot .ensures, ← y .top-slot2 .ensures, eq-eqb _ _ (c .before .if2 .taken)), refl)
 
 returns-3 : tie.Need-returns-3
 unfolding Accepted slot slotAt topFrame
 returns-3 c s =
-    by-effect _ _ _ _ (same-tests _ _ _ ∙ sym (c .before .before .before .before .before .before .before .top-refusal .ensures) ∙ c .before .before .before .before .before .before .if1 .left)
-    (c .gives2 .ensures ∙ rw (← c .before .before .before .before .top-slot .ensures, ← c .before .before .top-slot2 .ensures, ne-eqb _ _ (c .before .if2 .left)), refl)
+    let y = c .before .before in
+    let x = y .before .before in
+    by-effect _ _ _ _ (same-tests _ _ _ ∙ sym (x .before .before .before .top-refusal .ensures) ∙ x .before .before .if1 .left)
+    (c .gives2 .ensures ∙ rw (← x .top-slot .ensures, ← y .top-slot2 .ensures, ne-eqb _ _ (c .before .if2 .left)), refl)
 
 pub same-in-spec : {M : Type 1} → statement M
 same-in-spec = tie.close (tie.spec (λ c κs. search needs) (λ c κs. search needs) returns (λ c κs. search needs) (λ c κs. search needs) (λ c κs. search needs) returns-2 (λ c κs. search needs) returns-3)

@@ -52,8 +52,14 @@ add-t c = omega (arith, c .least .ensures, entry-low (c .before))
 returns-2 : tie.Need-returns-2
 unfolding Accepted tagOf entryOf countAt subregionsOf pagesOf outsideOf slotsBeyond
 returns-2 c s =
-    by-effect _ _ _ _ (refused-by _ _ _ _ (c .before .before .before .before .before .before .before .before .before .before .before .before .before .before .before .entry-of .ensures) (c .before .before .before .before .before .before .before .before .before .before .before .before .before .before .region-refusal .ensures) ∙ c .before .before .before .before .before .before .before .before .before .before .before .before .before .if1 .left)
-    (c .gives .ensures ∙ rw (c .before .before .before .before .before .before .outside .ensures, c .before .before .before .before .pages-of .ensures, c .before .subregions-of .ensures, tag-is (c .before .before .before .before .before .before .before .before .before .before .before .before), c .before .before .before .before .before .before .before .before .before .before .count-at .ensures, c .before .before .before .before .before .before .before .before .before .before .before .before .before .before .before .entry-of .ensures), refl)
+    let p = c .before .before .before .before in
+    let o = p .before .before in
+    let n = o .before .before .before .before in
+    let t = n .before .before in
+    let i = t .before in
+    let e = i .before .before .entry-of .ensures in
+    by-effect _ _ _ _ (refused-by _ _ _ _ e (i .before .region-refusal .ensures) ∙ i .if1 .left)
+    (c .gives .ensures ∙ rw (o .outside .ensures, p .pages-of .ensures, c .before .subregions-of .ensures, tag-is t, n .count-at .ensures, e), refl)
 
 pub report-in-spec : {M : Type 1} → statement M
 report-in-spec = tie.close (tie.spec (λ c κs. search needs) (λ c κs. search needs) (λ c κs. search needs) returns (λ c κs. search needs) add-t (λ c κs. search needs) (λ c κs. search needs) (λ c κs. search needs) (λ c κs. search needs) (λ c κs. search needs) returns-2)
