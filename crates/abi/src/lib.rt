@@ -2,11 +2,8 @@
 // Pointers are aligned and not null, also where a length is 0, lengths are true, and no two buffers overlap: that the host answers for. Whatever the memory holds, the calls are safe, end and have their outcomes; what the outcomes say of memory that the audit rejects is more than document 01 fixes.
 ghost use mathlib.Core.Path.{_≡_};
 ghost use mathlib.Core.List.{[], _∷_};
-ghost use Prim.Native.Nat.{_≤_};
-ghost use lib.Dec.{eqb};
 ghost use lib.ListN.{length};
 ghost use lib.Seq.{sets};
-ghost use Rattle.lists.specs.Lists.{pick};
 ghost use Rattle.abi.specs.Memory.{Made, Called, Viewed, layout};
 
 // Make: what the arrays held does not matter. The reply is the refusal's number, 0 where the call was accepted, and four values.
@@ -186,20 +183,6 @@ pub extern "C" fn region_store_call(
     *reply = [r.refusal, r.a, r.b, r.c, r.d];
 }
 
-// The length of a part that has at most 16 words.
-fn few(part: &[u32]) -> u32
-    ensures { λ r. ⌜ (length (now (part .entry)) ≤ 16 → r ≡ length (now (part .entry))) ⌝ }
-{
-    (part.len() % 4294967296) as u32
-}
-
-// Where a part begins that has so many words, of the object that v leads to.
-fn place_of(v: u32, count: u32) -> u32
-    ensures { λ r. ⌜ r ≡ pick (eqb count 0) 0 v ⌝ }
-{
-    if count == 0 { 0 } else { v }
-}
-
 // View: the refusal's number, and the part as its place and its length in the heap, both 0 where there is none.
 #[no_mangle]
 pub extern "C" fn region_store_view(
@@ -223,27 +206,28 @@ pub extern "C" fn region_store_view(
     ensures { λ _. ⌜ Viewed slot (now (numbers .entry) ∷ now (widths .entry) ∷ now (slots .entry) ∷ now (sizes .entry) ∷ now (marks .entry) ∷ now (names .entry) ∷ now (parents .entry) ∷ now (levels .entry) ∷ now (shares .entry) ∷ now (newest .entry) ∷ now (oldest .entry) ∷ now (owners .entry) ∷ now (taken .entry) ∷ []) (now (heap .entry)) (now (out .exit)) ⌝ }
 {
     let n = *numbers;
-    let s = held(
-        n,
-        widths,
-        slots,
-        sizes,
-        marks,
-        names,
-        parents,
-        levels,
-        shares,
-        newest,
-        oldest,
-        owners,
-        taken,
+    five(n);
+    shapes::arrays_shaped(
+        n[0],
+        n[1],
+        n[2],
+        n[3],
+        n[4],
+        *widths,
+        *slots,
+        *sizes,
+        *marks,
+        *names,
+        *parents,
+        *levels,
+        *shares,
+        *newest,
+        *oldest,
+        *owners,
+        *taken,
     );
-    let refusal = store::view_refusal(s, heap, slot);
-    let part = store::view(s, heap, slot);
-    let f = s.frames;
-    let v = checks::top_slot(f.standing, &f.slots, slot);
-    let count = few(part);
-    *out = [refusal, place_of(v, count), count];
+    let v = store::view_in(n[4], n[0], n[2], widths, slots, sizes, marks, heap, slot);
+    *out = [v.refusal, v.place, v.count];
 }
 
 // Numbers written from the start on, as far as there is room.

@@ -1,34 +1,49 @@
 // What a scanned line of a script does to the store that the script drives: a call, `pages`, or nothing. No function here reads input or writes output.
-use frames::Frames;
-use kinds::Kinds;
-use pages::Pages;
-use regions::Regions;
 use script::Line;
 use script::PAGES;
 use state::Reply;
-use state::State;
 ghost use mathlib.Core.Path.{_≡_};
 ghost use mathlib.Core.Bool.{true};
 ghost use Prim.Native.Nat.{_<_, _≤_};
 ghost use lib.ListN.{length, getD, take};
 ghost use Rattle.model.specs.Model.{view};
+ghost use Rattle.state.specs.declared.State.{State};
 ghost use Rattle.outcomes.specs.Outcome.{store};
 ghost use Rattle.numbers.specs.Numbers.{wordsAfter};
-ghost use Rattle.lent.specs.Lent.{stateOf};
+ghost use Rattle.lent.specs.Lent.{stateOf, withMade, withStanding, withWidths, withSlots, withDeclared, withSizes, withMarks};
 ghost use Rattle.actions.specs.Acts.{Replied, Called, Acts};
 
 // The call whose reply gets the length of a part.
 const VIEW: u32 = 17;
 
 // View, with the length of its part as first value.
-fn viewed(s: State, heap: &[u32], slot: u32) -> Reply
-    ensures { λ r. ⌜ (length (now (heap .entry)) < 4294967296 → Replied 17 (view slot) (store s (now (heap .entry))) r (store s (now (heap .entry)))) ⌝ }
+fn viewed(
+    made: u32,
+    standing: u32,
+    declared: u32,
+    widths: &[u8; 32],
+    slots: &[u32; 256],
+    sizes: &[u8; 16],
+    marks: &[u8; 256],
+    heap: &[u32],
+    slot: u32,
+) -> Reply
+    ensures { λ r. ⌜ ((s : State) → let S = store (withMade made (withStanding standing (withWidths (now (widths .entry)) (withSlots (now (slots .entry)) (withDeclared declared (withSizes (now (sizes .entry)) (withMarks (now (marks .entry)) s))))))) (now (heap .entry)) in Replied 17 (view slot) S r S) ⌝ }
 {
-    let refusal = store::view_refusal(s, heap, slot);
-    let part = store::view(s, heap, slot);
+    let v = store::view_in(
+        made,
+        standing,
+        declared,
+        widths,
+        slots,
+        sizes,
+        marks,
+        heap,
+        slot,
+    );
     Reply {
-        refusal,
-        a: (part.len() % 4294967296) as u32,
+        refusal: v.refusal,
+        a: v.count,
         b: 0,
         c: 0,
         d: 0,
@@ -62,34 +77,17 @@ fn called(
     let a = l.args;
     let f = l.filler;
     if l.call == VIEW {
-        let s = State {
-            frames: Frames {
-                standing: *standing,
-                counted: *counted,
-                widths: *widths,
-                slots: *slots,
-            },
-            kinds: Kinds {
-                declared: *declared,
-                sizes: *sizes,
-                marks: *marks,
-            },
-            regions: Regions {
-                given: *given,
-                names: *names,
-                parents: *parents,
-                levels: *levels,
-                shares: *shares,
-                newest: *newest,
-                oldest: *oldest,
-            },
-            pages: Pages {
-                made: *made,
-                owners: *owners,
-                taken: *taken,
-            },
-        };
-        return viewed(s, heap, a[0]);
+        return viewed(
+            *made,
+            *standing,
+            *declared,
+            widths,
+            slots,
+            sizes,
+            marks,
+            heap,
+            a[0],
+        );
     }
     let p = numbers::filler_place(l.call, l.count);
     store::call_in(
@@ -148,7 +146,26 @@ pub fn acted(
     if l.call == PAGES {
         let a = l.args;
         let w = cells::within(numbers::words_of(a[0]), memory.len());
-        return store::make_in(standing, counted, declared, given, made, widths, slots, sizes, marks, names, parents, levels, shares, newest, oldest, owners, taken, &mut memory[0..w]);
+        return store::make_in(
+            standing,
+            counted,
+            declared,
+            given,
+            made,
+            widths,
+            slots,
+            sizes,
+            marks,
+            names,
+            parents,
+            levels,
+            shares,
+            newest,
+            oldest,
+            owners,
+            taken,
+            &mut memory[0..w],
+        );
     }
     let w = cells::within(words, memory.len());
     called(

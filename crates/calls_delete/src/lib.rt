@@ -1,14 +1,7 @@
 // The call delete, in the order of source document 000, chapter 4.5: the tests, the scan; then the pages are given back, which is the region library's part there.
 use state::Reply;
-ghost use mathlib.Core.Path.{_≡_};
-ghost use lib.ListN.{length};
 ghost use Rattle.model.specs.Model.{delete};
 ghost use Rattle.lent.specs.Lent.{InPlace, withMade, withStanding, withCounted, withDeclared, withWidths, withSlots, withSizes, withMarks, withNames, withParents, withShares, withOwners, withTaken};
-
-// What the types say of the owners. It does nothing: its contract is what it is for.
-fn owners_shaped(owners: [u8; 256])
-    ensures { λ _. ⌜ length owners ≡ 256 ⌝ }
-{}
 
 // Document 01's call 23, for a filler (document 02, card 5): the region goes, with its objects and pages.
 pub fn delete_in<'a>(
@@ -60,10 +53,12 @@ pub fn delete_in<'a>(
     }
     // scanned
     let p = *owners;
-    owners_shaped(p);
+    apart::owners_shaped(p);
     let before = *shares;
     regions::shares_shaped(before);
-    let mut c = apart::scan(
+    let number = pages::pages_of(made, owners, tag);
+    apart::scan_held(
+        number,
         declared,
         sizes,
         marks,
@@ -72,15 +67,15 @@ pub fn delete_in<'a>(
         owners,
         taken,
         &members,
-        before,
+        shares,
         filler,
     );
     // the frames that m is raised over enter the shares, by the owners before any page is given back
-    delete_parts::enter_frames(standing, m, widths, slots, owners, &mut c, filler);
-    *shares = c;
+    delete_parts::enter_frames(standing, m, widths, slots, owners, shares, filler);
     // given back
-    let number = apart::give_back(made, owners, &members);
+    apart::give_back_one(made, owners, tag as u8);
     regions::put_word(names, e, 0);
-    *counted = frames::top(standing);
+    let raised = frames::top(standing);
+    *counted = raised;
     checks::gives(number, 0, 0, 0)
 }

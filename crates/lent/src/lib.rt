@@ -30,3 +30,9 @@ pub fn lay_widths(to: &mut [u8; 32], from: &[u8; 32])
 {
     *to = *from;
 }
+
+pub fn lay_slots(to: &mut [u32; 256], from: &[u32; 256])
+    ensures { λ _. ⌜ now (to .exit) ≡ now (from .entry) ⌝ }
+{
+    *to = *from;
+}

@@ -17,11 +17,14 @@ add-tag c =
 returns : tie.Need-returns
 returns c s = by-refusal _ _ _ _ _ (delete-second _ _ _ _ _ _ (c .before .before .before .before .before .before .before .before .before .before .before .before .before .before .before .before .before .entry-of .ensures) (c .before .before .before .before .before .before .before .before .before .before .before .before .before .before .store-byte .ensures) (c .before .before .delete-refusal .ensures)) (c .before .if1 .taken) (c .refused .ensures) refl
 
+cast-give-back-one : tie.Need-cast-give-back-one
+cast-give-back-one c = omega (arith, c .before .before .before .before .before .before .before .before .before .before .before .before .before .before .before .before .before .before .before .before .before .before .before .before .before .before .before .before .before .before .before .before .before .before .entry-of .ensures, entry-most (c .before .before .before .before .before .before .before .before .before .before .before .before .before .before .before .before .before .before .before .before .before .before .before .before .before .before .before .before .before .before .before .before .before .before .before .before .before .before .args .names .now) (c .before .before .before .before .before .before .before .before .before .before .before .before .before .before .before .before .before .before .before .before .before .before .before .before .before .before .before .before .before .before .before .before .before .before .before .before .before .before .args .region))
+
 returns-2 : tie.Need-returns-2
 unfolding raised topFrame withShares withoutRegions
 returns-2 c s =
-    delete-effect _ _ _ _ _ _ (c .before .before .before .before .before .before .before .before .before .before .before .before .before .before .before .before .before .before .before .before .before .before .before .before .before .before .before .before .before .before .before .before .before .before .before .before .before .entry-of .ensures) (c .before .before .before .before .before .before .before .before .before .before .before .before .before .before .before .before .before .before .before .before .before .before .before .before .before .before .before .before .before .before .before .before .before .before .store-byte .ensures) (c .before .before .before .before .before .before .before .before .before .before .before .before .before .before .before .before .before .before .before .before .before .before .delete-refusal .ensures) _ _ _ _ _ _ (c .before .before .before .before .before .before .before .before .before .before .before .before .before .before .before .before .before .before .before .before .before .if1 .left) (c .gives .ensures) (c .before .before .before .before .before .before .before .before .before .before .before .before .before .before .before .before .before .shares-shaped .ensures) (c .before .before .before .before .before .before .before .before .before .before .before .before .before .before .before .before .before .before .before .owners-shaped .ensures)
-    (c .before .before .before .before .before .before .before .before .before .before .before .before .before .before .scan .ensures) (c .before .before .before .before .before .before .before .before .enter-frames .ensures) (c .before .before .before .before .give-back .ensures) (rw (c .before .top .ensures)) refl (rw (c .before .before .put-word .ensures)) refl refl
+    delete-effect _ _ _ _ _ _ (c .before .before .before .before .before .before .before .before .before .before .before .before .before .before .before .before .before .before .before .before .before .before .before .before .before .before .before .before .before .before .before .before .before .before .before .before .before .before .before .entry-of .ensures) (c .before .before .before .before .before .before .before .before .before .before .before .before .before .before .before .before .before .before .before .before .before .before .before .before .before .before .before .before .before .before .before .before .before .before .before .before .store-byte .ensures) (c .before .before .before .before .before .before .before .before .before .before .before .before .before .before .before .before .before .before .before .before .before .before .before .before .delete-refusal .ensures) _ _ _ _ _ _ (c .before .before .before .before .before .before .before .before .before .before .before .before .before .before .before .before .before .before .before .before .before .before .before .if1 .left) (c .gives .ensures) (c .before .before .before .before .before .before .before .before .before .before .before .before .before .before .before .before .before .before .before .shares-shaped .ensures) (c .before .before .before .before .before .before .before .before .before .before .before .before .before .before .before .before .before .before .before .before .before .owners-shaped .ensures)
+    (c .before .before .before .before .before .before .before .before .before .before .before .before .before .before .before .before .pages-of .ensures) (c .before .before .before .before .before .before .before .before .before .before .before .before .scan-held .ensures) (c .before .before .before .before .before .before .enter-frames .ensures) (c .before .before .before .before .give-back-one .ensures) (rw (c .before .top .ensures)) refl (rw (c .before .before .put-word .ensures)) refl refl
 
 pub delete-in-spec : {M : Type 1} → statement M
-delete-in-spec = tie.close (tie.spec (λ c κs. search needs) add-tag (λ c. search needs) (λ c. search needs) (λ c κs. search needs) (λ c. search needs) (λ c κs. search needs) (λ c κs. search needs) returns (λ c κs. search needs) (λ c κs. search needs) (λ c κs. search needs) (λ c. search needs) (λ c κs. search needs) (λ c κs. search needs) (λ c κs. search needs) (λ c κs. search needs) (λ c κs. search needs) returns-2)
+delete-in-spec = tie.close (tie.spec (λ c κs. search needs) add-tag (λ c. search needs) (λ c. search needs) (λ c κs. search needs) (λ c. search needs) (λ c κs. search needs) (λ c κs. search needs) returns (λ c κs. search needs) (λ c κs. search needs) (λ c κs. search needs) (λ c κs. search needs) (λ c κs. search needs) cast-give-back-one (λ c κs. search needs) (λ c κs. search needs) (λ c κs. search needs) (λ c κs. search needs) returns-2)
