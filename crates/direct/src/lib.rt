@@ -1,10 +1,12 @@
-// The calls that a program makes most, for hosts in other languages: each by itself, on what it reads and writes of the state alone. The refusal is given, 0 where the call is accepted; a value, where there is one, is written, 0 where the call is refused.
-// Pointers are aligned and not null, also where a length is 0, lengths are true, and no two buffers overlap: that the host answers for, as in abi. A library of its own beside abi's, so that each call stands here once and is compiled into its function.
-ghost use Rattle.model.specs.Model.{newRegion, push, dropFrame, allocate, first, copy, fetch, clear, load, setPointer, put, get, delete};
+// The calls that a program makes most, for hosts in other languages: each by itself, on what it reads and writes of the state alone. A function gives the refusal's number, 0 where the call was accepted, and writes its values, 0 where it was refused.
+// What a host answers for is the same as in abi: pointers are aligned and not null, also where a length is 0, lengths are true, and no two buffers overlap. A library of its own beside abi's: here each call stands once, and is compiled into its function.
+ghost use mathlib.Core.List.{List, [], _∷_};
+ghost use Prim.Native.Nat.{ℕ};
+ghost use Rattle.model.specs.Model.{newRegion, push, dropFrame, handBack, allocate, first, copy, fetch, clear, load, setPointer, put, get, same, about, report, totals, delete};
 ghost use Rattle.lent.specs.Lent.{InPlace, withMade, withStanding, withCounted, withDeclared, withGiven, withWidths, withSlots, withSizes, withMarks, withNames, withParents, withLevels, withShares, withNewest, withOldest, withOwners, withTaken};
-ghost use Rattle.direct.specs.Direct.{bare, valued};
+ghost use Rattle.direct.specs.Direct.{replyWith};
 
-// New region, on what it reads and writes alone.
+// Document 01's call 3: a region that lies in no other.
 #[no_mangle]
 pub extern "C" fn region_store_new_region(
     made: u32,
@@ -18,7 +20,7 @@ pub extern "C" fn region_store_new_region(
     heap: &[u32],
     value: &mut u32,
 ) -> u32
-    ensures { λ g. ⌜ InPlace newRegion (λ s. withMade made (withGiven (now (given .entry)) (withNames (now (names .entry)) (withParents (now (parents .entry)) (withLevels (now (levels .entry)) (withShares (now (shares .entry)) (withNewest (now (newest .entry)) (withOldest (now (oldest .entry)) s)))))))) (now (heap .entry)) (valued g (now (value .exit))) (λ s. withGiven (now (given .exit)) (withNames (now (names .exit)) (withParents (now (parents .exit)) (withLevels (now (levels .exit)) (withShares (now (shares .exit)) (withNewest (now (newest .exit)) (withOldest (now (oldest .exit)) s))))))) (now (heap .entry)) ⌝ }
+    ensures { λ g. ⌜ InPlace newRegion (λ s. withMade made (withGiven (now (given .entry)) (withNames (now (names .entry)) (withParents (now (parents .entry)) (withLevels (now (levels .entry)) (withShares (now (shares .entry)) (withNewest (now (newest .entry)) (withOldest (now (oldest .entry)) s)))))))) (now (heap .entry)) (replyWith g (now (value .exit) ∷ [])) (λ s. withGiven (now (given .exit)) (withNames (now (names .exit)) (withParents (now (parents .exit)) (withLevels (now (levels .exit)) (withShares (now (shares .exit)) (withNewest (now (newest .exit)) (withOldest (now (oldest .exit)) s))))))) (now (heap .entry)) ⌝ }
 {
     let r = calls_regions::new_region_in(
         made,
@@ -35,7 +37,7 @@ pub extern "C" fn region_store_new_region(
     r.refusal
 }
 
-// Push, on what it reads and writes alone.
+// Document 01's call 5: a frame of so many null slots on top.
 #[no_mangle]
 pub extern "C" fn region_store_push(
     made: u32,
@@ -43,17 +45,17 @@ pub extern "C" fn region_store_push(
     widths: &mut [u8; 32],
     slots: &mut [u32; 256],
     heap: &[u32],
-    size: u32,
+    count: u32,
     value: &mut u32,
 ) -> u32
-    ensures { λ g. ⌜ InPlace (push size) (λ s. withMade made (withStanding (now (standing .entry)) (withWidths (now (widths .entry)) (withSlots (now (slots .entry)) s)))) (now (heap .entry)) (valued g (now (value .exit))) (λ s. withStanding (now (standing .exit)) (withWidths (now (widths .exit)) (withSlots (now (slots .exit)) s))) (now (heap .entry)) ⌝ }
+    ensures { λ g. ⌜ InPlace (push count) (λ s. withMade made (withStanding (now (standing .entry)) (withWidths (now (widths .entry)) (withSlots (now (slots .entry)) s)))) (now (heap .entry)) (replyWith g (now (value .exit) ∷ [])) (λ s. withStanding (now (standing .exit)) (withWidths (now (widths .exit)) (withSlots (now (slots .exit)) s))) (now (heap .entry)) ⌝ }
 {
-    let r = calls_stack::push_in(made, standing, widths, slots, heap, size);
+    let r = calls_stack::push_in(made, standing, widths, slots, heap, count);
     *value = r.a;
     r.refusal
 }
 
-// Drop, on what it reads and writes alone.
+// Document 01's call 6, for a filler (document 02, card 5): the top frame goes.
 #[no_mangle]
 pub extern "C" fn region_store_drop<'a>(
     made: u32,
@@ -67,7 +69,7 @@ pub extern "C" fn region_store_drop<'a>(
     filler: u32,
     value: &mut u32,
 ) -> u32
-    ensures { λ g. ⌜ InPlace (dropFrame filler) (λ s. withMade made (withStanding (now (standing .entry)) (withCounted (now (counted .entry)) (withWidths (now (widths .entry)) (withSlots (now (slots .entry)) (withShares (now (shares .entry)) (withOwners (now (owners .entry)) s))))))) (now (heap .entry)) (valued g (now (value .exit))) (λ s. withStanding (now (standing .exit)) (withCounted (now (counted .exit)) (withShares (now (shares .exit)) s))) (now (heap .entry)) ⌝ }
+    ensures { λ g. ⌜ InPlace (dropFrame filler) (λ s. withMade made (withStanding (now (standing .entry)) (withCounted (now (counted .entry)) (withWidths (now (widths .entry)) (withSlots (now (slots .entry)) (withShares (now (shares .entry)) (withOwners (now (owners .entry)) s))))))) (now (heap .entry)) (replyWith g (now (value .exit) ∷ [])) (λ s. withStanding (now (standing .exit)) (withCounted (now (counted .exit)) (withShares (now (shares .exit)) s))) (now (heap .entry)) ⌝ }
 {
     let r = calls_stack::drop_in(
         made,
@@ -84,7 +86,42 @@ pub extern "C" fn region_store_drop<'a>(
     r.refusal
 }
 
-// Allocate, on what it reads and writes alone.
+// Document 01's call 7, for a filler (document 02, card 5): the top frame goes, and what its slot held comes into the frame beneath.
+#[no_mangle]
+pub extern "C" fn region_store_hand_back<'a>(
+    made: u32,
+    standing: &mut u32,
+    counted: &mut u32,
+    widths: &'a [u8; 32],
+    slots: &mut [u32; 256],
+    shares: &mut [u32; 256],
+    owners: &'a [u8; 256],
+    heap: &[u32],
+    slot: u32,
+    beneath: u32,
+    filler: u32,
+    value: &mut u32,
+) -> u32
+    ensures { λ g. ⌜ InPlace (handBack slot beneath filler) (λ s. withMade made (withStanding (now (standing .entry)) (withCounted (now (counted .entry)) (withWidths (now (widths .entry)) (withSlots (now (slots .entry)) (withShares (now (shares .entry)) (withOwners (now (owners .entry)) s))))))) (now (heap .entry)) (replyWith g (now (value .exit) ∷ [])) (λ s. withStanding (now (standing .exit)) (withCounted (now (counted .exit)) (withSlots (now (slots .exit)) (withShares (now (shares .exit)) s)))) (now (heap .entry)) ⌝ }
+{
+    let r = calls_stack::hand_back_in(
+        made,
+        standing,
+        counted,
+        widths,
+        slots,
+        shares,
+        owners,
+        heap,
+        slot,
+        beneath,
+        filler,
+    );
+    *value = r.a;
+    r.refusal
+}
+
+// Document 01's call 8: an object of the kind in the region, and the slot leads to it.
 #[no_mangle]
 pub extern "C" fn region_store_allocate(
     made: u32,
@@ -103,7 +140,7 @@ pub extern "C" fn region_store_allocate(
     region: u32,
     kind: u32,
 ) -> u32
-    ensures { λ g. ⌜ InPlace (allocate slot region kind) (λ s. withMade made (withStanding standing (withDeclared declared (withWidths (now (widths .entry)) (withSizes (now (sizes .entry)) (withNames (now (names .entry)) (withSlots (now (slots .entry)) (withNewest (now (newest .entry)) (withOldest (now (oldest .entry)) (withOwners (now (owners .entry)) (withTaken (now (taken .entry)) s))))))))))) (now (heap .entry)) (bare g) (λ s. withSlots (now (slots .exit)) (withNewest (now (newest .exit)) (withOldest (now (oldest .exit)) (withOwners (now (owners .exit)) (withTaken (now (taken .exit)) s))))) (now (heap .exit)) ⌝ }
+    ensures { λ g. ⌜ InPlace (allocate slot region kind) (λ s. withMade made (withStanding standing (withDeclared declared (withWidths (now (widths .entry)) (withSizes (now (sizes .entry)) (withNames (now (names .entry)) (withSlots (now (slots .entry)) (withNewest (now (newest .entry)) (withOldest (now (oldest .entry)) (withOwners (now (owners .entry)) (withTaken (now (taken .entry)) s))))))))))) (now (heap .entry)) (replyWith g []) (λ s. withSlots (now (slots .exit)) (withNewest (now (newest .exit)) (withOldest (now (oldest .exit)) (withOwners (now (owners .exit)) (withTaken (now (taken .exit)) s))))) (now (heap .exit)) ⌝ }
 {
     let r = calls_allocate::allocate_in(
         made,
@@ -125,7 +162,7 @@ pub extern "C" fn region_store_allocate(
     r.refusal
 }
 
-// First, on what it reads and writes alone.
+// Document 01's call 9: the slot leads to the oldest object of the region.
 #[no_mangle]
 pub extern "C" fn region_store_first(
     made: u32,
@@ -138,7 +175,7 @@ pub extern "C" fn region_store_first(
     slot: u32,
     region: u32,
 ) -> u32
-    ensures { λ g. ⌜ InPlace (first slot region) (λ s. withMade made (withStanding standing (withWidths (now (widths .entry)) (withSlots (now (slots .entry)) (withNames (now (names .entry)) (withOldest (now (oldest .entry)) s)))))) (now (heap .entry)) (bare g) (withSlots (now (slots .exit))) (now (heap .entry)) ⌝ }
+    ensures { λ g. ⌜ InPlace (first slot region) (λ s. withMade made (withStanding standing (withWidths (now (widths .entry)) (withSlots (now (slots .entry)) (withNames (now (names .entry)) (withOldest (now (oldest .entry)) s)))))) (now (heap .entry)) (replyWith g []) (withSlots (now (slots .exit))) (now (heap .entry)) ⌝ }
 {
     let r = calls_slots::first_in(
         made,
@@ -154,7 +191,7 @@ pub extern "C" fn region_store_first(
     r.refusal
 }
 
-// Copy, on what it reads and writes alone.
+// Document 01's call 10: slot `to` leads where slot `from` leads.
 #[no_mangle]
 pub extern "C" fn region_store_copy(
     made: u32,
@@ -165,13 +202,13 @@ pub extern "C" fn region_store_copy(
     from: u32,
     to: u32,
 ) -> u32
-    ensures { λ g. ⌜ InPlace (copy from to) (λ s. withMade made (withStanding standing (withWidths (now (widths .entry)) (withSlots (now (slots .entry)) s)))) (now (heap .entry)) (bare g) (withSlots (now (slots .exit))) (now (heap .entry)) ⌝ }
+    ensures { λ g. ⌜ InPlace (copy from to) (λ s. withMade made (withStanding standing (withWidths (now (widths .entry)) (withSlots (now (slots .entry)) s)))) (now (heap .entry)) (replyWith g []) (withSlots (now (slots .exit))) (now (heap .entry)) ⌝ }
 {
     let r = calls_slots::copy_in(made, standing, widths, slots, heap, from, to);
     r.refusal
 }
 
-// Fetch, on what it reads and writes alone.
+// Document 01's call 11: the slot leads where a slot of the frame beneath leads.
 #[no_mangle]
 pub extern "C" fn region_store_fetch(
     made: u32,
@@ -179,16 +216,16 @@ pub extern "C" fn region_store_fetch(
     widths: &[u8; 32],
     slots: &mut [u32; 256],
     heap: &[u32],
-    from: u32,
-    to: u32,
+    beneath: u32,
+    slot: u32,
 ) -> u32
-    ensures { λ g. ⌜ InPlace (fetch from to) (λ s. withMade made (withStanding standing (withWidths (now (widths .entry)) (withSlots (now (slots .entry)) s)))) (now (heap .entry)) (bare g) (withSlots (now (slots .exit))) (now (heap .entry)) ⌝ }
+    ensures { λ g. ⌜ InPlace (fetch beneath slot) (λ s. withMade made (withStanding standing (withWidths (now (widths .entry)) (withSlots (now (slots .entry)) s)))) (now (heap .entry)) (replyWith g []) (withSlots (now (slots .exit))) (now (heap .entry)) ⌝ }
 {
-    let r = calls_slots::fetch_in(made, standing, widths, slots, heap, from, to);
+    let r = calls_slots::fetch_in(made, standing, widths, slots, heap, beneath, slot);
     r.refusal
 }
 
-// Clear, on what it reads and writes alone.
+// Document 01's call 12: the slot becomes null.
 #[no_mangle]
 pub extern "C" fn region_store_clear(
     made: u32,
@@ -198,13 +235,13 @@ pub extern "C" fn region_store_clear(
     heap: &[u32],
     slot: u32,
 ) -> u32
-    ensures { λ g. ⌜ InPlace (clear slot) (λ s. withMade made (withStanding standing (withWidths (now (widths .entry)) (withSlots (now (slots .entry)) s)))) (now (heap .entry)) (bare g) (withSlots (now (slots .exit))) (now (heap .entry)) ⌝ }
+    ensures { λ g. ⌜ InPlace (clear slot) (λ s. withMade made (withStanding standing (withWidths (now (widths .entry)) (withSlots (now (slots .entry)) s)))) (now (heap .entry)) (replyWith g []) (withSlots (now (slots .exit))) (now (heap .entry)) ⌝ }
 {
     let r = calls_slots::clear_in(made, standing, widths, slots, heap, slot);
     r.refusal
 }
 
-// Load, on what it reads and writes alone.
+// Document 01's call 13: slot `to` leads where a pointer word leads.
 #[no_mangle]
 pub extern "C" fn region_store_load<'a>(
     made: u32,
@@ -216,10 +253,10 @@ pub extern "C" fn region_store_load<'a>(
     marks: &'a [u8; 256],
     heap: &[u32],
     slot: u32,
-    w: u32,
+    word: u32,
     to: u32,
 ) -> u32
-    ensures { λ g. ⌜ InPlace (load slot w to) (λ s. withMade made (withStanding standing (withWidths (now (widths .entry)) (withSlots (now (slots .entry)) (withDeclared declared (withSizes (now (sizes .entry)) (withMarks (now (marks .entry)) s))))))) (now (heap .entry)) (bare g) (withSlots (now (slots .exit))) (now (heap .entry)) ⌝ }
+    ensures { λ g. ⌜ InPlace (load slot word to) (λ s. withMade made (withStanding standing (withWidths (now (widths .entry)) (withSlots (now (slots .entry)) (withDeclared declared (withSizes (now (sizes .entry)) (withMarks (now (marks .entry)) s))))))) (now (heap .entry)) (replyWith g []) (withSlots (now (slots .exit))) (now (heap .entry)) ⌝ }
 {
     let r = calls_pointers::load_in(
         made,
@@ -231,13 +268,13 @@ pub extern "C" fn region_store_load<'a>(
         marks,
         heap,
         slot,
-        w,
+        word,
         to,
     );
     r.refusal
 }
 
-// Set pointer, on what it reads and writes alone.
+// Document 01's call 14, for a filler (document 02, card 5): a pointer word leads where slot `value` leads.
 #[no_mangle]
 pub extern "C" fn region_store_set_pointer<'a>(
     made: u32,
@@ -254,11 +291,11 @@ pub extern "C" fn region_store_set_pointer<'a>(
     owners: &'a [u8; 256],
     heap: &mut [u32],
     slot: u32,
-    w: u32,
+    word: u32,
     value: u32,
     filler: u32,
 ) -> u32
-    ensures { λ g. ⌜ InPlace (setPointer slot w value filler) (λ s. withMade made (withStanding standing (withWidths (now (widths .entry)) (withSlots (now (slots .entry)) (withDeclared declared (withSizes (now (sizes .entry)) (withMarks (now (marks .entry)) (withNames (now (names .entry)) (withParents (now (parents .entry)) (withLevels (now (levels .entry)) (withShares (now (shares .entry)) (withOwners (now (owners .entry)) s)))))))))))) (now (heap .entry)) (bare g) (withShares (now (shares .exit))) (now (heap .exit)) ⌝ }
+    ensures { λ g. ⌜ InPlace (setPointer slot word value filler) (λ s. withMade made (withStanding standing (withWidths (now (widths .entry)) (withSlots (now (slots .entry)) (withDeclared declared (withSizes (now (sizes .entry)) (withMarks (now (marks .entry)) (withNames (now (names .entry)) (withParents (now (parents .entry)) (withLevels (now (levels .entry)) (withShares (now (shares .entry)) (withOwners (now (owners .entry)) s)))))))))))) (now (heap .entry)) (replyWith g []) (withShares (now (shares .exit))) (now (heap .exit)) ⌝ }
 {
     let r = calls_pointers::set_pointer_in(
         made,
@@ -275,14 +312,14 @@ pub extern "C" fn region_store_set_pointer<'a>(
         owners,
         heap,
         slot,
-        w,
+        word,
         value,
         filler,
     );
     r.refusal
 }
 
-// Put, on what it reads and writes alone.
+// Document 01's call 15: a data word gets the number.
 #[no_mangle]
 pub extern "C" fn region_store_put<'a>(
     made: u32,
@@ -294,10 +331,10 @@ pub extern "C" fn region_store_put<'a>(
     marks: &'a [u8; 256],
     heap: &mut [u32],
     slot: u32,
-    w: u32,
-    value: u32,
+    word: u32,
+    number: u32,
 ) -> u32
-    ensures { λ g. ⌜ InPlace (put slot w value) (λ s. withMade made (withStanding standing (withWidths (now (widths .entry)) (withSlots (now (slots .entry)) (withDeclared declared (withSizes (now (sizes .entry)) (withMarks (now (marks .entry)) s))))))) (now (heap .entry)) (bare g) (λ s. s) (now (heap .exit)) ⌝ }
+    ensures { λ g. ⌜ InPlace (put slot word number) (λ s. withMade made (withStanding standing (withWidths (now (widths .entry)) (withSlots (now (slots .entry)) (withDeclared declared (withSizes (now (sizes .entry)) (withMarks (now (marks .entry)) s))))))) (now (heap .entry)) (replyWith g []) (λ s. s) (now (heap .exit)) ⌝ }
 {
     let r = calls_words::put_in(
         made,
@@ -309,13 +346,13 @@ pub extern "C" fn region_store_put<'a>(
         marks,
         heap,
         slot,
-        w,
-        value,
+        word,
+        number,
     );
     r.refusal
 }
 
-// Get, on what it reads and writes alone.
+// Document 01's call 16: what a data word holds.
 #[no_mangle]
 pub extern "C" fn region_store_get<'a>(
     made: u32,
@@ -327,10 +364,10 @@ pub extern "C" fn region_store_get<'a>(
     marks: &'a [u8; 256],
     heap: &[u32],
     slot: u32,
-    w: u32,
+    word: u32,
     value: &mut u32,
 ) -> u32
-    ensures { λ g. ⌜ InPlace (get slot w) (λ s. withMade made (withStanding standing (withWidths (now (widths .entry)) (withSlots (now (slots .entry)) (withDeclared declared (withSizes (now (sizes .entry)) (withMarks (now (marks .entry)) s))))))) (now (heap .entry)) (valued g (now (value .exit))) (λ s. s) (now (heap .entry)) ⌝ }
+    ensures { λ g. ⌜ InPlace (get slot word) (λ s. withMade made (withStanding standing (withWidths (now (widths .entry)) (withSlots (now (slots .entry)) (withDeclared declared (withSizes (now (sizes .entry)) (withMarks (now (marks .entry)) s))))))) (now (heap .entry)) (replyWith g (now (value .exit) ∷ [])) (λ s. s) (now (heap .entry)) ⌝ }
 {
     let r = calls_words::get_in(
         made,
@@ -342,13 +379,104 @@ pub extern "C" fn region_store_get<'a>(
         marks,
         heap,
         slot,
-        w,
+        word,
     );
     *value = r.a;
     r.refusal
 }
 
-// Delete, on what it reads and writes alone.
+// Document 01's call 18: 1 where two slots lead to one object or are both null, else 0.
+#[no_mangle]
+pub extern "C" fn region_store_same(
+    made: u32,
+    standing: u32,
+    widths: &[u8; 32],
+    slots: &[u32; 256],
+    heap: &[u32],
+    slot: u32,
+    other: u32,
+    value: &mut u32,
+) -> u32
+    ensures { λ g. ⌜ InPlace (same slot other) (λ s. withMade made (withStanding standing (withWidths (now (widths .entry)) (withSlots (now (slots .entry)) s)))) (now (heap .entry)) (replyWith g (now (value .exit) ∷ [])) (λ s. s) (now (heap .entry)) ⌝ }
+{
+    let r = calls_about::same_in(made, standing, widths, slots, heap, slot, other);
+    *value = r.a;
+    r.refusal
+}
+
+// Document 01's call 19: the region and the kind of an object.
+#[no_mangle]
+pub extern "C" fn region_store_about(
+    made: u32,
+    standing: u32,
+    widths: &[u8; 32],
+    slots: &[u32; 256],
+    names: &[u32; 64],
+    owners: &[u8; 256],
+    heap: &[u32],
+    slot: u32,
+    values: &mut [u32; 2],
+) -> u32
+    ensures { λ g. ⌜ InPlace (about slot) (λ s. withMade made (withStanding standing (withWidths (now (widths .entry)) (withSlots (now (slots .entry)) (withNames (now (names .entry)) (withOwners (now (owners .entry)) s)))))) (now (heap .entry)) (replyWith g (now (values .exit))) (λ s. s) (now (heap .entry)) ⌝ }
+{
+    let r = calls_about::about_in(made, standing, widths, slots, names, owners, heap, slot);
+    *values = [r.a, r.b];
+    r.refusal
+}
+
+// Document 01's call 20: a region's stored count, outside pointers, pages and subregions.
+#[no_mangle]
+pub extern "C" fn region_store_report<'a>(
+    made: u32,
+    standing: u32,
+    counted: u32,
+    widths: &'a [u8; 32],
+    slots: &'a [u32; 256],
+    names: &'a [u32; 64],
+    parents: &'a [u8; 64],
+    shares: &[u32; 256],
+    owners: &'a [u8; 256],
+    heap: &[u32],
+    region: u32,
+    values: &mut [u32; 4],
+) -> u32
+    ensures { λ g. ⌜ InPlace (report region) (λ s. withMade made (withStanding standing (withCounted counted (withWidths (now (widths .entry)) (withSlots (now (slots .entry)) (withNames (now (names .entry)) (withParents (now (parents .entry)) (withShares (now (shares .entry)) (withOwners (now (owners .entry)) s))))))))) (now (heap .entry)) (replyWith g (now (values .exit))) (λ s. s) (now (heap .entry)) ⌝ }
+{
+    let r = calls_report::report_in(
+        made,
+        standing,
+        counted,
+        widths,
+        slots,
+        names,
+        parents,
+        shares,
+        owners,
+        heap,
+        region,
+    );
+    *values = [r.a, r.b, r.c, r.d];
+    r.refusal
+}
+
+// Document 01's call 21: free pages, live regions, frames standing and counted.
+#[no_mangle]
+pub extern "C" fn region_store_totals(
+    made: u32,
+    standing: u32,
+    counted: u32,
+    names: &[u32; 64],
+    owners: &[u8; 256],
+    values: &mut [u32; 4],
+) -> u32
+    ensures { λ g. ⌜ ((heap : List ℕ) → InPlace totals (λ s. withMade made (withStanding standing (withCounted counted (withNames (now (names .entry)) (withOwners (now (owners .entry)) s))))) heap (replyWith g (now (values .exit))) (λ s. s) heap) ⌝ }
+{
+    let r = calls_about::totals_in(made, standing, counted, names, owners);
+    *values = [r.a, r.b, r.c, r.d];
+    r.refusal
+}
+
+// Document 01's call 23, for a filler (document 02, card 5): the region goes, and its pages are free.
 #[no_mangle]
 pub extern "C" fn region_store_delete<'a>(
     made: u32,
@@ -369,7 +497,7 @@ pub extern "C" fn region_store_delete<'a>(
     filler: u32,
     value: &mut u32,
 ) -> u32
-    ensures { λ g. ⌜ InPlace (delete region filler) (λ s. withMade made (withStanding standing (withCounted (now (counted .entry)) (withDeclared declared (withWidths (now (widths .entry)) (withSlots (now (slots .entry)) (withSizes (now (sizes .entry)) (withMarks (now (marks .entry)) (withNames (now (names .entry)) (withParents (now (parents .entry)) (withShares (now (shares .entry)) (withOwners (now (owners .entry)) (withTaken (now (taken .entry)) s))))))))))))) (now (heap .entry)) (valued g (now (value .exit))) (λ s. withCounted (now (counted .exit)) (withNames (now (names .exit)) (withShares (now (shares .exit)) (withOwners (now (owners .exit)) s)))) (now (heap .entry)) ⌝ }
+    ensures { λ g. ⌜ InPlace (delete region filler) (λ s. withMade made (withStanding standing (withCounted (now (counted .entry)) (withDeclared declared (withWidths (now (widths .entry)) (withSlots (now (slots .entry)) (withSizes (now (sizes .entry)) (withMarks (now (marks .entry)) (withNames (now (names .entry)) (withParents (now (parents .entry)) (withShares (now (shares .entry)) (withOwners (now (owners .entry)) (withTaken (now (taken .entry)) s))))))))))))) (now (heap .entry)) (replyWith g (now (value .exit) ∷ [])) (λ s. withCounted (now (counted .exit)) (withNames (now (names .exit)) (withShares (now (shares .exit)) (withOwners (now (owners .exit)) s)))) (now (heap .entry)) ⌝ }
 {
     let r = calls_delete::delete_in(
         made,

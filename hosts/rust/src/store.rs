@@ -1,4 +1,4 @@
-//! The store: a state and a heap, lent to the library at each call. Every unsafe block of the crate is here.
+//! The store: a state and a heap, lent to the library at each call. Every unsafe block of the crate is here, or in a call that `lent` or `shown` below serves.
 
 use crate::refusal::{accepted, known};
 use crate::tables::{lend, region_store_layout, Ask, Refusal, State, LAYOUT, STATE_BYTES};
@@ -18,7 +18,7 @@ pub(crate) const PAGES: u32 = 256;
 /// Calls that only ask take `&self`, those that act `&mut self`. A copy made by `clone` is a store of its own with the same state and heap.
 //
 // Both stand in UnsafeCells, since the library writes the state back also where a call only asks, and takes the heap as one that may be written. What keeps this right:
-// - No reference to the state is ever handed out, nor kept over a call of the library.
+// - No reference to the state is ever handed out, nor kept over a call of the library but the one that it is lent to.
 // - References to the heap are handed out under `&self`. While one lives only calls that ask can be made, and the library's code of those has the heap only to read.
 // - UnsafeCell takes away Sync, so that calls under `&self` come one after the other.
 pub struct Store {
@@ -153,6 +153,26 @@ impl Store {
     /// The heap, as a pointer that may be written through: the words stand in UnsafeCells, so it may be had under `&self`.
     fn words(&self) -> *mut u32 {
         UnsafeCell::raw_get(self.heap.as_ptr())
+    }
+
+    /// The state and the heap, to be lent to a function of the library for one call.
+    ///
+    /// That is right: the pointers are this store's own, aligned and not null, with the heap's true length; the arrays that the call writes and reads are different members of the state; and `&mut self` says that no reference to the heap lives.
+    pub(crate) fn lent(&mut self) -> (&mut State, *mut u32, usize) {
+        let (heap, words) = (self.words(), self.heap.len());
+        (self.state.get_mut(), heap, words)
+    }
+
+    /// The state and the heap, to be lent to a function of the library that only reads them, for one call.
+    ///
+    /// That is right: the pointers are this store's own, aligned and not null, with the heap's true length; and nobody writes state or heap meanwhile, since the store is not Sync.
+    ///
+    /// # Safety
+    ///
+    /// The state that is given lives for that call alone: what else asks may write it.
+    pub(crate) unsafe fn shown(&self) -> (&State, *const u32, usize) {
+        // SAFETY: nothing writes the state while the reference lives, as the caller says.
+        (unsafe { &*self.state.get() }, self.words(), self.heap.len())
     }
 
     fn make(&mut self) -> [u32; 5] {

@@ -173,6 +173,244 @@ extern "C" {
         out: *mut [u32; 3],
     );
     pub(crate) fn region_store_layout(out: *mut u32, room: usize) -> usize;
+    pub(crate) fn region_store_new_region(
+        made: u32,
+        given: &mut u32,
+        names: &mut [u32; 64],
+        parents: &mut [u8; 64],
+        levels: &mut [u8; 64],
+        shares: &mut [u32; 256],
+        newest: &mut [u16; 64],
+        oldest: &mut [u32; 64],
+        heap: *const u32,
+        words: usize,
+        value: &mut u32,
+    ) -> u32;
+    pub(crate) fn region_store_push(
+        made: u32,
+        standing: &mut u32,
+        widths: &mut [u8; 32],
+        slots: &mut [u32; 256],
+        heap: *const u32,
+        words: usize,
+        count: u32,
+        value: &mut u32,
+    ) -> u32;
+    pub(crate) fn region_store_drop(
+        made: u32,
+        standing: &mut u32,
+        counted: &mut u32,
+        widths: &[u8; 32],
+        slots: &[u32; 256],
+        shares: &mut [u32; 256],
+        owners: &[u8; 256],
+        heap: *const u32,
+        words: usize,
+        filler: u32,
+        value: &mut u32,
+    ) -> u32;
+    pub(crate) fn region_store_hand_back(
+        made: u32,
+        standing: &mut u32,
+        counted: &mut u32,
+        widths: &[u8; 32],
+        slots: &mut [u32; 256],
+        shares: &mut [u32; 256],
+        owners: &[u8; 256],
+        heap: *const u32,
+        words: usize,
+        slot: u32,
+        beneath: u32,
+        filler: u32,
+        value: &mut u32,
+    ) -> u32;
+    pub(crate) fn region_store_allocate(
+        made: u32,
+        standing: u32,
+        declared: u32,
+        widths: &[u8; 32],
+        slots: &mut [u32; 256],
+        sizes: &[u8; 16],
+        names: &[u32; 64],
+        newest: &mut [u16; 64],
+        oldest: &mut [u32; 64],
+        owners: &mut [u8; 256],
+        taken: &mut [u8; 256],
+        heap: *mut u32,
+        words: usize,
+        slot: u32,
+        region: u32,
+        kind: u32,
+    ) -> u32;
+    pub(crate) fn region_store_first(
+        made: u32,
+        standing: u32,
+        widths: &[u8; 32],
+        slots: &mut [u32; 256],
+        names: &[u32; 64],
+        oldest: &[u32; 64],
+        heap: *const u32,
+        words: usize,
+        slot: u32,
+        region: u32,
+    ) -> u32;
+    pub(crate) fn region_store_copy(
+        made: u32,
+        standing: u32,
+        widths: &[u8; 32],
+        slots: &mut [u32; 256],
+        heap: *const u32,
+        words: usize,
+        from: u32,
+        to: u32,
+    ) -> u32;
+    pub(crate) fn region_store_fetch(
+        made: u32,
+        standing: u32,
+        widths: &[u8; 32],
+        slots: &mut [u32; 256],
+        heap: *const u32,
+        words: usize,
+        beneath: u32,
+        slot: u32,
+    ) -> u32;
+    pub(crate) fn region_store_clear(
+        made: u32,
+        standing: u32,
+        widths: &[u8; 32],
+        slots: &mut [u32; 256],
+        heap: *const u32,
+        words: usize,
+        slot: u32,
+    ) -> u32;
+    pub(crate) fn region_store_load(
+        made: u32,
+        standing: u32,
+        declared: u32,
+        widths: &[u8; 32],
+        slots: &mut [u32; 256],
+        sizes: &[u8; 16],
+        marks: &[u8; 256],
+        heap: *const u32,
+        words: usize,
+        slot: u32,
+        word: u32,
+        to: u32,
+    ) -> u32;
+    pub(crate) fn region_store_set_pointer(
+        made: u32,
+        standing: u32,
+        declared: u32,
+        widths: &[u8; 32],
+        slots: &[u32; 256],
+        sizes: &[u8; 16],
+        marks: &[u8; 256],
+        names: &[u32; 64],
+        parents: &[u8; 64],
+        levels: &[u8; 64],
+        shares: &mut [u32; 256],
+        owners: &[u8; 256],
+        heap: *mut u32,
+        words: usize,
+        slot: u32,
+        word: u32,
+        value: u32,
+        filler: u32,
+    ) -> u32;
+    pub(crate) fn region_store_put(
+        made: u32,
+        standing: u32,
+        declared: u32,
+        widths: &[u8; 32],
+        slots: &[u32; 256],
+        sizes: &[u8; 16],
+        marks: &[u8; 256],
+        heap: *mut u32,
+        words: usize,
+        slot: u32,
+        word: u32,
+        number: u32,
+    ) -> u32;
+    pub(crate) fn region_store_get(
+        made: u32,
+        standing: u32,
+        declared: u32,
+        widths: &[u8; 32],
+        slots: &[u32; 256],
+        sizes: &[u8; 16],
+        marks: &[u8; 256],
+        heap: *const u32,
+        words: usize,
+        slot: u32,
+        word: u32,
+        value: &mut u32,
+    ) -> u32;
+    pub(crate) fn region_store_same(
+        made: u32,
+        standing: u32,
+        widths: &[u8; 32],
+        slots: &[u32; 256],
+        heap: *const u32,
+        words: usize,
+        slot: u32,
+        other: u32,
+        value: &mut u32,
+    ) -> u32;
+    pub(crate) fn region_store_about(
+        made: u32,
+        standing: u32,
+        widths: &[u8; 32],
+        slots: &[u32; 256],
+        names: &[u32; 64],
+        owners: &[u8; 256],
+        heap: *const u32,
+        words: usize,
+        slot: u32,
+        values: &mut [u32; 2],
+    ) -> u32;
+    pub(crate) fn region_store_report(
+        made: u32,
+        standing: u32,
+        counted: u32,
+        widths: &[u8; 32],
+        slots: &[u32; 256],
+        names: &[u32; 64],
+        parents: &[u8; 64],
+        shares: &[u32; 256],
+        owners: &[u8; 256],
+        heap: *const u32,
+        words: usize,
+        region: u32,
+        values: &mut [u32; 4],
+    ) -> u32;
+    pub(crate) fn region_store_totals(
+        made: u32,
+        standing: u32,
+        counted: u32,
+        names: &[u32; 64],
+        owners: &[u8; 256],
+        values: &mut [u32; 4],
+    ) -> u32;
+    pub(crate) fn region_store_delete(
+        made: u32,
+        standing: u32,
+        counted: &mut u32,
+        declared: u32,
+        widths: &[u8; 32],
+        slots: &[u32; 256],
+        sizes: &[u8; 16],
+        marks: &[u8; 256],
+        names: &mut [u32; 64],
+        parents: &[u8; 64],
+        shares: &mut [u32; 256],
+        owners: &mut [u8; 256],
+        taken: &[u8; 256],
+        heap: *const u32,
+        words: usize,
+        region: u32,
+        filler: u32,
+        value: &mut u32,
+    ) -> u32;
 }
 
 /// Calls a function of the library with the arrays of a state (a `*mut State`), then the rest of its arguments.
@@ -199,15 +437,10 @@ macro_rules! lend {
 }
 pub(crate) use lend;
 
-/// The calls that only ask, by their numbers: they leave the state and the heap as they are. View has a function of its own.
+/// The calls that only ask and are made by their numbers: they leave the state and the heap as they are.
 #[derive(Clone, Copy)]
 #[repr(u32)]
 pub(crate) enum Ask {
-    Get = 16,
-    Same = 18,
-    About = 19,
-    Report = 20,
-    Totals = 21,
     Audit = 22,
     Locate = 25,
 }
