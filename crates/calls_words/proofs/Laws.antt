@@ -74,9 +74,9 @@ module _ (S : Store) (s : ℕ) where
       view-refused z = (sym view-second, refl, omega arith, by-refusal (view s) S _ S _ refl (λ q. z (sym view-second ∙ q)) refl refl)
 
       -- and c and p: how many words the object's part has, and where it begins
-      pub view-effect : g ≡ 0 → (c p : ℕ) → c ≡ min m (length (S .heap) - v) → p ≡ pick (eqb c 0) 0 v → ViewedAs s S (record { refusal = 0; place = p; count = c })
+      pub view-effect : g ≡ 0 → (c p : ℕ) → p ≡ pick (eqb c 0) 0 v → c ≡ min m (length (S .heap) - v) → ViewedAs s S (record { refusal = 0; place = p; count = c })
       unfolding Accepted slot slotAt topFrame wordCount sizeOf
-      view-effect z c p counted begins =
+      view-effect z c p begins counted =
           let e = view-second ∙ z in
           let (within, same) = placed (S .heap) m v c p counted begins in
           (sym e, begins ∙ ap (pick (eqb c 0) 0) led, within, by-effect (view s) S _ S e (rw (e, same, sized, kinded, read, object-header (S .heap) v, led), refl))

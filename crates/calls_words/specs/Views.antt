@@ -10,7 +10,7 @@ use Rattle.model.specs.Model.{view}
 use Rattle.state.specs.declared.State.{State}
 use Rattle.outcomes.specs.Store.{Store, slot}
 use Rattle.outcomes.specs.Outcome.{Outcome, refusal, viewAnswer, store}
-use Rattle.calls_words.specs.declared.View.{View}
+use Rattle.lent.specs.declared.View.{View}
 
 -- v says what view of slot n is answered on S: the place is that of the object's word 0, which is the pointer in the slot, and 0 with an empty part (document 01, View)
 abbrev pub ViewedAs : ℕ → Store → View → Type 0

@@ -1,4 +1,5 @@
 // The calls on an object's data: put, get, view.
+use lent::View;
 use state::Reply;
 ghost use mathlib.Core.Path.{_≡_};
 ghost use lib.Dec.{eqb};
@@ -7,13 +8,6 @@ ghost use Rattle.model.specs.Model.{put, get};
 ghost use Rattle.lent.specs.Lent.{InPlace, withMade, withStanding, withWidths, withSlots, withDeclared, withSizes, withMarks};
 ghost use Rattle.calls_words.specs.Words.{dataRefusal, viewRefusal};
 ghost use Rattle.calls_words.specs.Views.{ViewedIn};
-
-// What view gives in place: the refusal's number, and the object's part of the heap by its place and its length, both 0 where there is none.
-pub struct View {
-    pub refusal: u32,
-    pub place: u32,
-    pub count: u32,
-}
 
 // 14 and 15 for word w of the object that v leads to, and 16 unless the word is data.
 fn data_refusal<'a>(

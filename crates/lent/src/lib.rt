@@ -1,5 +1,12 @@
-// Arrays laid back into a state, for the calls by value over those in place. What the latter promise stands in specs/.
+// Arrays laid back into a state, for the calls by value over those in place, and what view gives in place. What the calls in place promise stands in specs/.
 ghost use mathlib.Core.Path.{_≡_};
+
+// The refusal's number, and the object's part of the heap by its place and its length, both 0 where there is none.
+pub struct View {
+    pub refusal: u32,
+    pub place: u32,
+    pub count: u32,
+}
 
 pub fn lay_words(to: &mut [u32; 64], from: &[u32; 64])
     ensures { λ _. ⌜ now (to .exit) ≡ now (from .entry) ⌝ }

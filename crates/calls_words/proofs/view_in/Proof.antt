@@ -1,3 +1,4 @@
+use native.Mathlib.Omega.{arith}
 use borrow.Author.Needs.{needs}
 use Rattle.calls_words.proofs.Laws.{view-refused, view-effect}
 use Rattle.calls_words.proofs.view_in.Statement.{statement}
@@ -19,7 +20,7 @@ returns-2 c s =
     let z = u .before .before .before in
     let k = z .before .before in
     let o = k .before in
-    view-effect _ _ _ _ (o .before .top-slot .ensures) (o .object-of .ensures) _ _ _ (k .kind-of .ensures) (z .size-of .ensures) (u .unseen .ensures) (i .if1 .left) _ _ (l .part-len .ensures) (c .place-of .ensures)
+    view-effect _ _ _ _ (o .before .top-slot .ensures) (o .object-of .ensures) _ _ _ (k .kind-of .ensures) (z .size-of .ensures) (u .unseen .ensures) (i .if1 .left) _ _ (c .place-of .ensures) (omega (arith, l .part-len .ensures))
 
 pub view-in-spec : {M : Type 1} → statement M
 view-in-spec = tie.close (tie.spec (λ c κs. search needs) (λ c κs. search needs) (λ c κs. search needs) (λ c κs. search needs) (λ c κs. search needs) returns (λ c. search needs) (λ c. search needs) (λ c κs. search needs) (λ c. search needs) (λ c κs. search needs) returns-2)
