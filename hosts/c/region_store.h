@@ -28,7 +28,8 @@
 // What the program must keep to:
 //  - A store is used by one caller at a time, also for calls that only ask: the library may write what was there.
 //  - The heap is s->words words long and stays where it is, as long as the store is used. Store, heap, list and reply do not overlap, and only calls write the heap.
-//  - Pointers are aligned as their types are. To the functions rs_* a null list or heap counts as an empty one; no other pointer may be null. (The functions region_store_* take no null pointer at all: see there.)
+//  - A store is filled by rs_make or rs_file_load before any other call.
+//  - Pointers are aligned as their types are. To the functions rs_* a null list counts as an empty one, and to rs_make a null heap; no other pointer may be null, nor s->heap. (The functions region_store_* take no null pointer at all: see there.)
 //  - A call takes up to 40 KiB of stack, beside what a thread takes by itself: small threads, coroutines and signal stacks may have less.
 // Whatever bytes the state and the heap hold, every call ends, touches only what it is lent, and answers (this is proved). But what a call answers is right only for a store that rs_make made, or for one that rs_audit finds sound, and that only calls have changed since.
 //
@@ -204,6 +205,7 @@ static inline const char *region_store_reason(uint32_t number)
 // ---- The library
 //
 // A program uses the functions further down; these are what they stand on. No pointer given to them may be null, also where a length is 0: an empty list or heap is some word with the length 0. A reply is five words: the refusal, then the values. The view's three: the refusal, the place in the heap, how many words.
+// The functions after region_store_layout make one call each, on what it reads and writes of the state alone. They give the refusal and write the values, zeros where they refuse.
 // region_store_layout writes the version of the layout, then of each array the bytes of an element and the number of elements, in the order of struct rs_state, as far as `room` goes. It gives how many numbers a layout has, whether there was room for them or not.
 
 #ifdef __cplusplus
@@ -319,28 +321,20 @@ static inline struct rs_reply rs_reply_of(const uint32_t *words)
     return reply;
 }
 
-// The heap as the library takes it: one that is NULL is some word, of which none is lent.
-static inline uint32_t *rs_heap(const struct rs_store *s)
-{
-    static uint32_t none;
-    return s->heap ? s->heap : &none;
-}
-
-static inline size_t rs_words(const struct rs_store *s) { return s->heap ? s->words : 0; }
-
 // ---- The calls
 
 // Makes a store of the heap: every word becomes 0, every page free, and region 1, the permanent one, lives. What s held before does not matter.
 // heap, words: the heap, and how many words it has, 64 for each page.
 // No values.
 // Refused by RS_HEAP_LENGTH. Then the heap has not changed, but the state has: its arrays are all zeros, whatever they held, and s holds no store. Totals gives zeros, audit 0, and all other calls are refused by RS_WRONG_HEAP.
-// A heap that is NULL counts as one of 0 words.
+// A heap that is NULL counts as one of 0 words; s->heap is then some word that is never lent.
 static inline struct rs_reply rs_make(struct rs_store *s, uint32_t *heap, size_t words)
 {
+    static uint32_t none;
     uint32_t reply[5] = {0, 0, 0, 0, 0};
-    s->heap = heap;
+    s->heap = heap ? heap : &none;
     s->words = heap ? words : 0;
-    region_store_make(RS_LENT(&s->state), rs_heap(s), rs_words(s), reply);
+    region_store_make(RS_LENT(&s->state), s->heap, s->words, reply);
     return rs_reply_of(reply);
 }
 
@@ -352,7 +346,7 @@ static inline struct rs_reply rs_call(struct rs_store *s, uint32_t number, uint3
     const uint32_t none = 0;
     uint32_t reply[5] = {0, 0, 0, 0, 0};
     region_store_call(
-        RS_LENT(&s->state), rs_heap(s), rs_words(s), number, a, b, c, d, list ? list : &none, list ? count : 0, reply);
+        RS_LENT(&s->state), s->heap, s->words, number, a, b, c, d, list ? list : &none, list ? count : 0, reply);
     return rs_reply_of(reply);
 }
 
@@ -363,7 +357,7 @@ static inline struct rs_view rs_view(const struct rs_store *s, uint32_t slot)
 {
     uint32_t out[3] = {0, 0, 0};
     struct rs_view view;
-    region_store_view(RS_LENT(&s->state), rs_heap(s), rs_words(s), slot, out);
+    region_store_view(RS_LENT(&s->state), s->heap, s->words, slot, out);
     view.refusal = out[0];
     view.words = out[0] == RS_ACCEPTED ? s->heap + out[1] : NULL;
     view.count = out[0] == RS_ACCEPTED ? out[2] : 0;
@@ -390,7 +384,7 @@ static inline struct rs_reply rs_new_region(struct rs_store *s)
     uint32_t value;
     reply.refusal = region_store_new_region(
         t->numbers[RS_MADE], &t->numbers[RS_GIVEN], t->names, t->parents, t->levels, t->shares, t->newest, t->oldest,
-        rs_heap(s), rs_words(s), &value);
+        s->heap, s->words, &value);
     reply.values[0] = value;
     return reply;
 }
@@ -414,7 +408,7 @@ static inline struct rs_reply rs_push(struct rs_store *s, uint32_t slots)
     struct rs_reply reply = {0, {0, 0, 0, 0}};
     uint32_t value;
     reply.refusal = region_store_push(
-        t->numbers[RS_MADE], &t->numbers[RS_STANDING], t->widths, t->slots, rs_heap(s), rs_words(s), slots, &value);
+        t->numbers[RS_MADE], &t->numbers[RS_STANDING], t->widths, t->slots, s->heap, s->words, slots, &value);
     reply.values[0] = value;
     return reply;
 }
@@ -430,7 +424,7 @@ static inline struct rs_reply rs_drop(struct rs_store *s, uint32_t filler)
     uint32_t value;
     reply.refusal = region_store_drop(
         t->numbers[RS_MADE], &t->numbers[RS_STANDING], &t->numbers[RS_COUNTED], t->widths, t->slots, t->shares,
-        t->owners, rs_heap(s), rs_words(s), filler, &value);
+        t->owners, s->heap, s->words, filler, &value);
     reply.values[0] = value;
     return reply;
 }
@@ -448,7 +442,7 @@ static inline struct rs_reply rs_hand_back(struct rs_store *s, uint32_t slot, ui
     uint32_t value;
     reply.refusal = region_store_hand_back(
         t->numbers[RS_MADE], &t->numbers[RS_STANDING], &t->numbers[RS_COUNTED], t->widths, t->slots, t->shares,
-        t->owners, rs_heap(s), rs_words(s), slot, beneath, filler, &value);
+        t->owners, s->heap, s->words, slot, beneath, filler, &value);
     reply.values[0] = value;
     return reply;
 }
@@ -465,7 +459,7 @@ static inline struct rs_reply rs_allocate(struct rs_store *s, uint32_t slot, uin
     struct rs_reply reply = {0, {0, 0, 0, 0}};
     reply.refusal = region_store_allocate(
         t->numbers[RS_MADE], t->numbers[RS_STANDING], t->numbers[RS_DECLARED], t->widths, t->slots, t->sizes, t->names,
-        t->newest, t->oldest, t->owners, t->taken, rs_heap(s), rs_words(s), slot, region, kind);
+        t->newest, t->oldest, t->owners, t->taken, s->heap, s->words, slot, region, kind);
     return reply;
 }
 
@@ -479,8 +473,8 @@ static inline struct rs_reply rs_first(struct rs_store *s, uint32_t slot, uint32
     struct rs_state *t = &s->state;
     struct rs_reply reply = {0, {0, 0, 0, 0}};
     reply.refusal = region_store_first(
-        t->numbers[RS_MADE], t->numbers[RS_STANDING], t->widths, t->slots, t->names, t->oldest, rs_heap(s),
-        rs_words(s), slot, region);
+        t->numbers[RS_MADE], t->numbers[RS_STANDING], t->widths, t->slots, t->names, t->oldest, s->heap, s->words,
+        slot, region);
     return reply;
 }
 
@@ -494,7 +488,7 @@ static inline struct rs_reply rs_copy(struct rs_store *s, uint32_t from, uint32_
     struct rs_state *t = &s->state;
     struct rs_reply reply = {0, {0, 0, 0, 0}};
     reply.refusal = region_store_copy(
-        t->numbers[RS_MADE], t->numbers[RS_STANDING], t->widths, t->slots, rs_heap(s), rs_words(s), from, to);
+        t->numbers[RS_MADE], t->numbers[RS_STANDING], t->widths, t->slots, s->heap, s->words, from, to);
     return reply;
 }
 
@@ -508,7 +502,7 @@ static inline struct rs_reply rs_fetch(struct rs_store *s, uint32_t beneath, uin
     struct rs_state *t = &s->state;
     struct rs_reply reply = {0, {0, 0, 0, 0}};
     reply.refusal = region_store_fetch(
-        t->numbers[RS_MADE], t->numbers[RS_STANDING], t->widths, t->slots, rs_heap(s), rs_words(s), beneath, slot);
+        t->numbers[RS_MADE], t->numbers[RS_STANDING], t->widths, t->slots, s->heap, s->words, beneath, slot);
     return reply;
 }
 
@@ -521,7 +515,7 @@ static inline struct rs_reply rs_clear(struct rs_store *s, uint32_t slot)
     struct rs_state *t = &s->state;
     struct rs_reply reply = {0, {0, 0, 0, 0}};
     reply.refusal = region_store_clear(
-        t->numbers[RS_MADE], t->numbers[RS_STANDING], t->widths, t->slots, rs_heap(s), rs_words(s), slot);
+        t->numbers[RS_MADE], t->numbers[RS_STANDING], t->widths, t->slots, s->heap, s->words, slot);
     return reply;
 }
 
@@ -537,7 +531,7 @@ static inline struct rs_reply rs_load(struct rs_store *s, uint32_t slot, uint32_
     struct rs_reply reply = {0, {0, 0, 0, 0}};
     reply.refusal = region_store_load(
         t->numbers[RS_MADE], t->numbers[RS_STANDING], t->numbers[RS_DECLARED], t->widths, t->slots, t->sizes, t->marks,
-        rs_heap(s), rs_words(s), slot, word, to);
+        s->heap, s->words, slot, word, to);
     return reply;
 }
 
@@ -554,7 +548,7 @@ static inline struct rs_reply rs_set_pointer(struct rs_store *s, uint32_t slot, 
     struct rs_reply reply = {0, {0, 0, 0, 0}};
     reply.refusal = region_store_set_pointer(
         t->numbers[RS_MADE], t->numbers[RS_STANDING], t->numbers[RS_DECLARED], t->widths, t->slots, t->sizes, t->marks,
-        t->names, t->parents, t->levels, t->shares, t->owners, rs_heap(s), rs_words(s), slot, word, value, filler);
+        t->names, t->parents, t->levels, t->shares, t->owners, s->heap, s->words, slot, word, value, filler);
     return reply;
 }
 
@@ -570,7 +564,7 @@ static inline struct rs_reply rs_put(struct rs_store *s, uint32_t slot, uint32_t
     struct rs_reply reply = {0, {0, 0, 0, 0}};
     reply.refusal = region_store_put(
         t->numbers[RS_MADE], t->numbers[RS_STANDING], t->numbers[RS_DECLARED], t->widths, t->slots, t->sizes, t->marks,
-        rs_heap(s), rs_words(s), slot, word, number);
+        s->heap, s->words, slot, word, number);
     return reply;
 }
 
@@ -586,7 +580,7 @@ static inline struct rs_reply rs_get(struct rs_store *s, uint32_t slot, uint32_t
     uint32_t value;
     reply.refusal = region_store_get(
         t->numbers[RS_MADE], t->numbers[RS_STANDING], t->numbers[RS_DECLARED], t->widths, t->slots, t->sizes, t->marks,
-        rs_heap(s), rs_words(s), slot, word, &value);
+        s->heap, s->words, slot, word, &value);
     reply.values[0] = value;
     return reply;
 }
@@ -602,8 +596,7 @@ static inline struct rs_reply rs_same(struct rs_store *s, uint32_t slot, uint32_
     struct rs_reply reply = {0, {0, 0, 0, 0}};
     uint32_t value;
     reply.refusal = region_store_same(
-        t->numbers[RS_MADE], t->numbers[RS_STANDING], t->widths, t->slots, rs_heap(s), rs_words(s), slot, other,
-        &value);
+        t->numbers[RS_MADE], t->numbers[RS_STANDING], t->widths, t->slots, s->heap, s->words, slot, other, &value);
     reply.values[0] = value;
     return reply;
 }
@@ -618,8 +611,8 @@ static inline struct rs_reply rs_about(struct rs_store *s, uint32_t slot)
     struct rs_state *t = &s->state;
     struct rs_reply reply = {0, {0, 0, 0, 0}};
     reply.refusal = region_store_about(
-        t->numbers[RS_MADE], t->numbers[RS_STANDING], t->widths, t->slots, t->names, t->owners, rs_heap(s),
-        rs_words(s), slot, reply.values);
+        t->numbers[RS_MADE], t->numbers[RS_STANDING], t->widths, t->slots, t->names, t->owners, s->heap, s->words,
+        slot, reply.values);
     return reply;
 }
 
@@ -636,7 +629,7 @@ static inline struct rs_reply rs_report(struct rs_store *s, uint32_t region)
     struct rs_reply reply;
     reply.refusal = region_store_report(
         t->numbers[RS_MADE], t->numbers[RS_STANDING], t->numbers[RS_COUNTED], t->widths, t->slots, t->names,
-        t->parents, t->shares, t->owners, rs_heap(s), rs_words(s), region, reply.values);
+        t->parents, t->shares, t->owners, s->heap, s->words, region, reply.values);
     return reply;
 }
 
@@ -675,8 +668,8 @@ static inline struct rs_reply rs_delete(struct rs_store *s, uint32_t region, uin
     uint32_t value;
     reply.refusal = region_store_delete(
         t->numbers[RS_MADE], t->numbers[RS_STANDING], &t->numbers[RS_COUNTED], t->numbers[RS_DECLARED], t->widths,
-        t->slots, t->sizes, t->marks, t->names, t->parents, t->shares, t->owners, t->taken, rs_heap(s), rs_words(s),
-        region, filler, &value);
+        t->slots, t->sizes, t->marks, t->names, t->parents, t->shares, t->owners, t->taken, s->heap, s->words, region,
+        filler, &value);
     reply.values[0] = value;
     return reply;
 }

@@ -96,7 +96,7 @@ function direct_given(i,    parts, n, j, name, s) {
     for (j = 1; j <= n; j++) {
         name = bare(parts[j])
         if (name in number_place) s = s " / " (is_written(parts[j]) ? "&" : "") "t->numbers[RS_" upper(name) "]"
-        else if (name == "heap") s = s " / rs_heap(s) / rs_words(s)"
+        else if (name == "heap") s = s " / s->heap / s->words"
         else s = s " / t->" name
     }
     n = split(call_arguments[i], parts, " ")

@@ -521,6 +521,7 @@ function method(i,    t) {
     t = given(i)
     told(i)
     if (call_refusals[i] == "") print "    #[must_use]"
+    if (call_name[i] in direct) print "    #[inline]"
     head(i, call_refusals[i] == "" ? t : "Result<" t ", Refusal>")
     if (call_name[i] == "view") print "        self.part(slot)"
     else if (call_name[i] in direct) {

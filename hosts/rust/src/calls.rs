@@ -113,6 +113,7 @@ impl Store {
     /// # Ok(())
     /// # }
     /// ```
+    #[inline]
     pub fn new_region(&mut self) -> Result<u32, Refusal> {
         let (s, heap, words) = self.lent();
         let [_, _, _, given, made] = &mut s.numbers;
@@ -200,6 +201,7 @@ impl Store {
     /// # Ok(())
     /// # }
     /// ```
+    #[inline]
     pub fn push(&mut self, slots: u32) -> Result<u32, Refusal> {
         let (s, heap, words) = self.lent();
         let [standing, _, _, _, made] = &mut s.numbers;
@@ -235,6 +237,7 @@ impl Store {
     /// - 21 [`Refusal::WrongHeap`], the heap's length is not the one made, or none was made, since make refused
     /// - 23 [`Refusal::NoFiller`], the filler is above 3
     /// - 6 [`Refusal::NoFrame`], no frame, or fewer than the two that the call needs
+    #[inline]
     pub fn drop(&mut self, filler: u32) -> Result<u32, Refusal> {
         let (s, heap, words) = self.lent();
         let [standing, counted, _, _, made] = &mut s.numbers;
@@ -276,6 +279,7 @@ impl Store {
     /// - 23 [`Refusal::NoFiller`], the filler is above 3
     /// - 6 [`Refusal::NoFrame`], no frame, or fewer than the two that the call needs
     /// - 9 [`Refusal::NoSlot`], a slot named is not there
+    #[inline]
     pub fn hand_back(&mut self, slot: u32, beneath: u32, filler: u32) -> Result<u32, Refusal> {
         let (s, heap, words) = self.lent();
         let [standing, counted, _, _, made] = &mut s.numbers;
@@ -335,6 +339,7 @@ impl Store {
     /// # Ok(())
     /// # }
     /// ```
+    #[inline]
     pub fn allocate(&mut self, slot: u32, region: u32, kind: u32) -> Result<(), Refusal> {
         let (s, heap, words) = self.lent();
         let [standing, _, declared, _, made] = &mut s.numbers;
@@ -378,6 +383,7 @@ impl Store {
     /// - 6 [`Refusal::NoFrame`], no frame, or fewer than the two that the call needs
     /// - 9 [`Refusal::NoSlot`], a slot named is not there
     /// - 2 [`Refusal::NoRegion`], no live region has that name
+    #[inline]
     pub fn first(&mut self, slot: u32, region: u32) -> Result<(), Refusal> {
         let (s, heap, words) = self.lent();
         let [standing, _, _, _, made] = &mut s.numbers;
@@ -414,6 +420,7 @@ impl Store {
     /// - 21 [`Refusal::WrongHeap`], the heap's length is not the one made, or none was made, since make refused
     /// - 6 [`Refusal::NoFrame`], no frame, or fewer than the two that the call needs
     /// - 9 [`Refusal::NoSlot`], a slot named is not there
+    #[inline]
     pub fn copy(&mut self, from: u32, to: u32) -> Result<(), Refusal> {
         let (s, heap, words) = self.lent();
         let [standing, _, _, _, made] = &mut s.numbers;
@@ -448,6 +455,7 @@ impl Store {
     /// - 21 [`Refusal::WrongHeap`], the heap's length is not the one made, or none was made, since make refused
     /// - 6 [`Refusal::NoFrame`], no frame, or fewer than the two that the call needs
     /// - 9 [`Refusal::NoSlot`], a slot named is not there
+    #[inline]
     pub fn fetch(&mut self, beneath: u32, slot: u32) -> Result<(), Refusal> {
         let (s, heap, words) = self.lent();
         let [standing, _, _, _, made] = &mut s.numbers;
@@ -481,6 +489,7 @@ impl Store {
     /// - 21 [`Refusal::WrongHeap`], the heap's length is not the one made, or none was made, since make refused
     /// - 6 [`Refusal::NoFrame`], no frame, or fewer than the two that the call needs
     /// - 9 [`Refusal::NoSlot`], a slot named is not there
+    #[inline]
     pub fn clear(&mut self, slot: u32) -> Result<(), Refusal> {
         let (s, heap, words) = self.lent();
         let [standing, _, _, _, made] = &mut s.numbers;
@@ -510,6 +519,7 @@ impl Store {
     /// - 14 [`Refusal::NullObject`], the object slot is null
     /// - 15 [`Refusal::NoWord`], the object has no such word
     /// - 16 [`Refusal::WrongWord`], the word is data where a pointer is wanted, or the other way round; for view, some word is no data
+    #[inline]
     pub fn load(&mut self, slot: u32, word: u32, to: u32) -> Result<(), Refusal> {
         let (s, heap, words) = self.lent();
         let [standing, _, declared, _, made] = &mut s.numbers;
@@ -572,6 +582,7 @@ impl Store {
     /// # Ok(())
     /// # }
     /// ```
+    #[inline]
     pub fn set_pointer(
         &mut self,
         slot: u32,
@@ -642,6 +653,7 @@ impl Store {
     /// # Ok(())
     /// # }
     /// ```
+    #[inline]
     pub fn put(&mut self, slot: u32, word: u32, number: u32) -> Result<(), Refusal> {
         let (s, heap, words) = self.lent();
         let [standing, _, declared, _, made] = &mut s.numbers;
@@ -673,6 +685,7 @@ impl Store {
     /// - 14 [`Refusal::NullObject`], the object slot is null
     /// - 15 [`Refusal::NoWord`], the object has no such word
     /// - 16 [`Refusal::WrongWord`], the word is data where a pointer is wanted, or the other way round; for view, some word is no data
+    #[inline]
     pub fn get(&self, slot: u32, word: u32) -> Result<u32, Refusal> {
         let mut v = 0;
         // SAFETY: see `Store::shown`.
@@ -756,6 +769,7 @@ impl Store {
     /// - 21 [`Refusal::WrongHeap`], the heap's length is not the one made, or none was made, since make refused
     /// - 6 [`Refusal::NoFrame`], no frame, or fewer than the two that the call needs
     /// - 9 [`Refusal::NoSlot`], a slot named is not there
+    #[inline]
     pub fn same(&self, slot: u32, other: u32) -> Result<bool, Refusal> {
         let mut v = 0;
         // SAFETY: see `Store::shown`.
@@ -784,6 +798,7 @@ impl Store {
     /// - 21 [`Refusal::WrongHeap`], the heap's length is not the one made, or none was made, since make refused
     /// - 6 [`Refusal::NoFrame`], no frame, or fewer than the two that the call needs
     /// - 9 [`Refusal::NoSlot`], a slot named is not there
+    #[inline]
     pub fn about(&self, slot: u32) -> Result<About, Refusal> {
         let mut v = [0; 2];
         // SAFETY: see `Store::shown`.
@@ -827,6 +842,7 @@ impl Store {
     /// # Ok(())
     /// # }
     /// ```
+    #[inline]
     pub fn report(&self, region: u32) -> Result<Report, Refusal> {
         let mut v = [0; 4];
         // SAFETY: see `Store::shown`.
@@ -863,6 +879,7 @@ impl Store {
     /// # }
     /// ```
     #[must_use]
+    #[inline]
     pub fn totals(&self) -> Totals {
         let mut v = [0; 4];
         // SAFETY: see `Store::shown`.
@@ -935,6 +952,7 @@ impl Store {
     /// # Ok(())
     /// # }
     /// ```
+    #[inline]
     pub fn delete(&mut self, region: u32, filler: u32) -> Result<u32, Refusal> {
         let (s, heap, words) = self.lent();
         let [standing, counted, declared, _, made] = &mut s.numbers;

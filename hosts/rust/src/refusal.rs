@@ -61,6 +61,7 @@ impl fmt::Display for Refusal {
 impl Error for Refusal {}
 
 /// Nothing, or the refusal with that number.
+#[inline]
 pub(crate) fn passed(number: u32) -> Result<(), Refusal> {
     match number {
         0 => Ok(()),

@@ -1,5 +1,4 @@
 use mathlib.Core.Path.{refl}
-use borrow.Author.Needs.{needs}
 use Rattle.outcomes.specs.Outcome.{blank}
 use Rattle.calls_make.proofs.blank_in.Statement.{statement}
 use Rattle.calls_make.proofs.blank_in.Tie as tie
