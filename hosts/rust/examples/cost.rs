@@ -188,20 +188,32 @@ impl Costs {
         self.of("put", plain, 200_000, |s, _| s.put(0, 1, 7))?;
         self.of("get", plain, 200_000, |s, _| s.get(0, 1))?;
         self.of("view", plain, 200_000, |s, _| Ok(s.view(3)?.len()))?;
-        self.of("set_pointer", plain, 200_000, |s, i| s.set_pointer(0, 0, 1 + i % 2, 0))?;
+        self.of("set_pointer", plain, 200_000, |s, i| {
+            s.set_pointer(0, 0, 1 + i % 2, 0)
+        })?;
         self.of("allocate", plain, 1_000, |s, _| s.allocate(5, 2, PAIR))?;
-        self.of("push_drop", plain, 200_000, |s, _| s.push(8).and_then(|_| s.drop(0)))?;
-        self.of("push_hand_back", plain, 200_000, |s, _| s.push(8).and_then(|_| s.hand_back(0, 5, 0)))?;
+        self.of("push_drop", plain, 200_000, |s, _| {
+            s.push(8).and_then(|_| s.drop(0))
+        })?;
+        self.of("push_hand_back", plain, 200_000, |s, _| {
+            s.push(8).and_then(|_| s.hand_back(0, 5, 0))
+        })?;
         self.of("same", plain, 200_000, |s, _| s.same(0, 1))?;
         self.of("about", plain, 200_000, |s, _| s.about(0))?;
         self.of("locate", plain, 200_000, |s, _| s.locate(0))?;
         self.of("totals", plain, 200_000, |s, _| Ok(s.totals()))?;
         self.of("report", plain, 200_000, |s, _| s.report(2))?;
-        self.of("region_delete", plain, 20_000, |s, _| s.new_region().and_then(|r| s.delete(r, 0)))?;
-        self.of("subregion_delete", plain, 20_000, |s, _| s.subregion(2).and_then(|r| s.delete(r, 0)))?;
+        self.of("region_delete", plain, 20_000, |s, _| {
+            s.new_region().and_then(|r| s.delete(r, 0))
+        })?;
+        self.of("subregion_delete", plain, 20_000, |s, _| {
+            s.subregion(2).and_then(|r| s.delete(r, 0))
+        })?;
         self.of("cycle", linked, 200, |s, _| cycle(s))?;
         self.of("delete_pages", heavy, 0, |s, _| s.delete(5, 0))?;
-        self.of("delete_all", filled, 0, |s, _| s.delete_all(&[17, 16, 15, 14, 13, 12, 11, 10, 9, 8, 7, 6, 5, 4, 3, 2], 0))?;
+        self.of("delete_all", filled, 0, |s, _| {
+            s.delete_all(&[17, 16, 15, 14, 13, 12, 11, 10, 9, 8, 7, 6, 5, 4, 3, 2], 0)
+        })?;
         self.of("audit", plain, 20_000, |s, _| Ok(assert!(s.audit())))?;
         self.of("audit_full", full, 200, |s, _| Ok(assert!(s.audit())))
     }
