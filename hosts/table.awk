@@ -87,9 +87,8 @@ END {
     }
 }
 
-# What a direct call is lent: numbers, then arrays in their order, then the heap; nothing is written by a call that only asks, and none has a list.
+# What a direct call is lent: numbers, then arrays in their order, then the heap; nothing is written by a call that only asks.
 function test_direct(i, lent,    parts, n, j, name, at, last) {
-    if (call_arguments[i] ~ /[.][.]/) bad("a call with a list is not made directly")
     n = split(lent, parts, " ")
     last = 0
     for (j = 1; j <= n; j++) {
@@ -151,8 +150,8 @@ function is_flag(word) { return word ~ /[?]$/ }
 
 function is_written(word) { return word ~ /!$/ }
 
-# an argument of a direct call, as the library names it: not as an array that it is lent
-function parameter(name) { return (name in array_place) ? "count" : name }
+# an argument of a direct call, as the library names it: a list is called so, and no number as an array is
+function parameter(word) { return is_list(word) ? "list" : (word in array_place) ? "count" : word }
 
 # what the only value of a call is: what an argument of that name is, and nothing where there is none
 function only_what(word) { return (bare(word) in argument_what) ? argument_what[bare(word)] : "" }

@@ -230,9 +230,15 @@ void region_store_view(
     const uint32_t *oldest, const uint8_t *owners, const uint8_t *taken,
     const uint32_t *heap, size_t words, uint32_t slot, uint32_t *out);
 size_t region_store_layout(uint32_t *out, size_t room);
+uint32_t region_store_declare(
+    uint32_t made, uint32_t *declared, uint8_t *sizes, uint8_t *marks, const uint32_t *heap, size_t words,
+    const uint32_t *list, size_t count, uint32_t *value);
 uint32_t region_store_new_region(
     uint32_t made, uint32_t *given, uint32_t *names, uint8_t *parents, uint8_t *levels, uint32_t *shares,
     uint16_t *newest, uint32_t *oldest, const uint32_t *heap, size_t words, uint32_t *value);
+uint32_t region_store_subregion(
+    uint32_t made, uint32_t *given, uint32_t *names, uint8_t *parents, uint8_t *levels, uint32_t *shares,
+    uint16_t *newest, uint32_t *oldest, const uint32_t *heap, size_t words, uint32_t region, uint32_t *value);
 uint32_t region_store_push(
     uint32_t made, uint32_t *standing, uint8_t *widths, uint32_t *slots, const uint32_t *heap, size_t words,
     uint32_t count, uint32_t *value);
@@ -292,6 +298,9 @@ uint32_t region_store_delete(
     const uint32_t *slots, const uint8_t *sizes, const uint8_t *marks, uint32_t *names, const uint8_t *parents,
     uint32_t *shares, uint8_t *owners, const uint8_t *taken, const uint32_t *heap, size_t words, uint32_t region,
     uint32_t filler, uint32_t *value);
+uint32_t region_store_locate(
+    uint32_t made, uint32_t standing, const uint8_t *widths, const uint32_t *slots, const uint32_t *heap, size_t words,
+    uint32_t slot, uint32_t *values);
 // hosts/tables: end
 
 #ifdef __cplusplus
@@ -371,7 +380,15 @@ static inline struct rs_view rs_view(const struct rs_store *s, uint32_t slot)
 // Refused by RS_WRONG_HEAP, RS_WRONG_MARKS, RS_KINDS_FULL.
 static inline struct rs_reply rs_declare(struct rs_store *s, const uint32_t *marks, size_t count)
 {
-    return rs_call(s, RS_CALL_DECLARE, 0, 0, 0, 0, marks, count);
+    struct rs_state *t = &s->state;
+    struct rs_reply reply = {0, {0, 0, 0, 0}};
+    uint32_t value;
+    const uint32_t none = 0;
+    reply.refusal = region_store_declare(
+        t->numbers[RS_MADE], &t->numbers[RS_DECLARED], t->sizes, t->marks, s->heap, s->words, marks ? marks : &none,
+        marks ? count : 0, &value);
+    reply.values[0] = value;
+    return reply;
 }
 
 // Makes a region that lies in no other, and gives its name.
@@ -395,7 +412,14 @@ static inline struct rs_reply rs_new_region(struct rs_store *s)
 // Refused by RS_WRONG_HEAP, RS_NO_REGION, RS_TOO_DEEP, RS_REGIONS_FULL, RS_NAMES_OUT.
 static inline struct rs_reply rs_subregion(struct rs_store *s, uint32_t region)
 {
-    return rs_call(s, RS_CALL_SUBREGION, region, 0, 0, 0, NULL, 0);
+    struct rs_state *t = &s->state;
+    struct rs_reply reply = {0, {0, 0, 0, 0}};
+    uint32_t value;
+    reply.refusal = region_store_subregion(
+        t->numbers[RS_MADE], &t->numbers[RS_GIVEN], t->names, t->parents, t->levels, t->shares, t->newest, t->oldest,
+        s->heap, s->words, region, &value);
+    reply.values[0] = value;
+    return reply;
 }
 
 // Puts a frame of 1 to 8 null slots on the stack, and gives how many frames stand.
@@ -691,7 +715,11 @@ static inline struct rs_reply rs_delete_all(struct rs_store *s, const uint32_t *
 // Refused by RS_WRONG_HEAP, RS_NO_FRAME, RS_NO_SLOT.
 static inline struct rs_reply rs_locate(struct rs_store *s, uint32_t slot)
 {
-    return rs_call(s, RS_CALL_LOCATE, slot, 0, 0, 0, NULL, 0);
+    struct rs_state *t = &s->state;
+    struct rs_reply reply = {0, {0, 0, 0, 0}};
+    reply.refusal = region_store_locate(
+        t->numbers[RS_MADE], t->numbers[RS_STANDING], t->widths, t->slots, s->heap, s->words, slot, reply.values);
+    return reply;
 }
 // hosts/tables: end
 

@@ -83,7 +83,7 @@ function direct_takes(i,    parts, n, j, name, constant, s) {
         else s = s " / " constant type_of(array_width[array_place[name]]) " *" name
     }
     n = split(call_arguments[i], parts, " ")
-    for (j = 1; j <= n; j++) s = s " / uint32_t " parameter(parts[j])
+    for (j = 1; j <= n; j++) s = s (is_list(parts[j]) ? " / const uint32_t *list / size_t count" : " / uint32_t " parameter(parts[j]))
     n = split(call_values[i], parts, " ")
     if (n) s = s " / uint32_t *" (n == 1 ? "value" : "values")
     return substr(s, 4)
@@ -100,7 +100,10 @@ function direct_given(i,    parts, n, j, name, s) {
         else s = s " / t->" name
     }
     n = split(call_arguments[i], parts, " ")
-    for (j = 1; j <= n; j++) s = s " / " parts[j]
+    for (j = 1; j <= n; j++) {
+        name = bare(parts[j])
+        s = s " / " (is_list(parts[j]) ? name " ? " name " : &none / " name " ? count : 0" : name)
+    }
     n = split(call_values[i], parts, " ")
     if (n) s = s " / " (n == 1 ? "&value" : "reply.values")
     return substr(s, 4)
@@ -113,6 +116,7 @@ function direct_body(i,    parts, n) {
     if (n == 4) print "    struct rs_reply reply;"
     else print "    struct rs_reply reply = {0, {0, 0, 0, 0}};"
     if (n == 1) print "    uint32_t value;"
+    if (call_arguments[i] ~ /[.][.]/) print "    const uint32_t none = 0;"
     print "    reply.refusal = region_store_" call_name[i] "(" filled(direct_given(i), "        ") ");"
     if (n == 1) print "    reply.values[0] = value;"
     print "    return reply;"

@@ -143,7 +143,11 @@ function declared_direct(i,    a, n, k) {
         print "        words: usize,"
     }
     n = words(call_arguments[i], a)
-    for (k = 1; k <= n; k++) print "        " parameter(a[k]) ": u32,"
+    for (k = 1; k <= n; k++) {
+        if (!is_list(a[k])) { print "        " parameter(a[k]) ": u32,"; continue }
+        print "        list: *const u32,"
+        print "        count: usize,"
+    }
     n = words(call_values[i], a)
     if (n) print "        " (n == 1 ? "value: &mut u32," : "values: &mut [u32; " n "],")
     print "    ) -> u32;"
@@ -465,7 +469,7 @@ function direct_given(i,    a, n, k, name, s) {
         else s = s " / &" (is_written(a[k]) ? "mut " : "") "s." name
     }
     n = words(call_arguments[i], a)
-    for (k = 1; k <= n; k++) s = s " / " a[k]
+    for (k = 1; k <= n; k++) s = s " / " (is_list(a[k]) ? bare(a[k]) ".as_ptr() / " bare(a[k]) ".len()" : a[k])
     n = words(call_values[i], a)
     if (n) s = s " / &mut v"
     return substr(s, 4)

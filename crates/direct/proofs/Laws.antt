@@ -18,8 +18,8 @@ Within n a = a .values ≡ four (take n (a .values))
 abbrev shortened : ℕ → Reply → Reply
 shortened n r = replyWith (r .refusal) (take n (r .a ∷ r .b ∷ r .c ∷ r .d ∷ []))
 
-same : (n : ℕ) (r : Reply) (b : Answer) → answerOf r [] ≡ b → Within n b → answerOf r [] ≡ answerOf (shortened n r) []
-same n r b e k =
+as-written : (n : ℕ) (r : Reply) (b : Answer) → answerOf r [] ≡ b → Within n b → answerOf r [] ≡ answerOf (shortened n r) []
+as-written n r b e k =
     let v : (r .a ∷ r .b ∷ r .c ∷ r .d ∷ []) ≡ b .values = ap (λ (a : Answer). a .values) e in
     ap (λ l. record { refusal = r .refusal; values = l; part = [] }) (v ∙ k ∙ ap (λ l. four (take n l)) (sym v))
 
@@ -30,5 +30,5 @@ unfolding Outcome
 by-numbers n c zeros k S T r o = subst (λ a. Outcome c S a T) (go (refusal S c) o) o
   where
     go : (g : ℕ) → Answered g c S (answerOf r []) T → answerOf r [] ≡ answerOf (shortened n r) []
-    go zero q = let (b, e, f) = k S T (answerOf r []) q in same n r b e f
-    go (suc g) q = same n r (refusedBy (suc g)) (q .0) (zeros (suc g))
+    go zero q = let (b, e, f) = k S T (answerOf r []) q in as-written n r b e f
+    go (suc g) q = as-written n r (refusedBy (suc g)) (q .0) (zeros (suc g))

@@ -2,9 +2,27 @@
 // What a host answers for is the same as in abi: pointers are aligned and not null, also where a length is 0, lengths are true, and no two buffers overlap. A library of its own beside abi's: here each call stands once, and is compiled into its function.
 ghost use mathlib.Core.List.{List, [], _∷_};
 ghost use Prim.Native.Nat.{ℕ};
-ghost use Rattle.model.specs.Model.{newRegion, push, dropFrame, handBack, allocate, first, copy, fetch, clear, load, setPointer, put, get, same, about, report, totals, delete};
+ghost use Rattle.model.specs.Model.{declare, newRegion, subregion, push, dropFrame, handBack, allocate, first, copy, fetch, clear, load, setPointer, put, get, same, about, report, totals, delete, locate, ask};
 ghost use Rattle.lent.specs.Lent.{InPlace, withMade, withStanding, withCounted, withDeclared, withGiven, withWidths, withSlots, withSizes, withMarks, withNames, withParents, withLevels, withShares, withNewest, withOldest, withOwners, withTaken};
 ghost use Rattle.direct.specs.Direct.{replyWith};
+
+// Document 01's call 2: a kind of object, by a mark for each word.
+#[no_mangle]
+pub extern "C" fn region_store_declare(
+    made: u32,
+    declared: &mut u32,
+    sizes: &mut [u8; 16],
+    marks: &mut [u8; 256],
+    heap: &[u32],
+    list: &[u32],
+    value: &mut u32,
+) -> u32
+    ensures { λ g. ⌜ InPlace (declare (now (list .entry))) (λ s. withMade made (withDeclared (now (declared .entry)) (withSizes (now (sizes .entry)) (withMarks (now (marks .entry)) s)))) (now (heap .entry)) (replyWith g (now (value .exit) ∷ [])) (λ s. withDeclared (now (declared .exit)) (withSizes (now (sizes .exit)) (withMarks (now (marks .exit)) s))) (now (heap .entry)) ⌝ }
+{
+    let r = calls_make::declare_in(made, declared, sizes, marks, heap, list);
+    *value = r.a;
+    r.refusal
+}
 
 // Document 01's call 3: a region that lies in no other.
 #[no_mangle]
@@ -32,6 +50,39 @@ pub extern "C" fn region_store_new_region(
         newest,
         oldest,
         heap,
+    );
+    *value = r.a;
+    r.refusal
+}
+
+// Document 01's call 4: a region inside a region.
+#[no_mangle]
+pub extern "C" fn region_store_subregion(
+    made: u32,
+    given: &mut u32,
+    names: &mut [u32; 64],
+    parents: &mut [u8; 64],
+    levels: &mut [u8; 64],
+    shares: &mut [u32; 256],
+    newest: &mut [u16; 64],
+    oldest: &mut [u32; 64],
+    heap: &[u32],
+    region: u32,
+    value: &mut u32,
+) -> u32
+    ensures { λ g. ⌜ InPlace (subregion region) (λ s. withMade made (withGiven (now (given .entry)) (withNames (now (names .entry)) (withParents (now (parents .entry)) (withLevels (now (levels .entry)) (withShares (now (shares .entry)) (withNewest (now (newest .entry)) (withOldest (now (oldest .entry)) s)))))))) (now (heap .entry)) (replyWith g (now (value .exit) ∷ [])) (λ s. withGiven (now (given .exit)) (withNames (now (names .exit)) (withParents (now (parents .exit)) (withLevels (now (levels .exit)) (withShares (now (shares .exit)) (withNewest (now (newest .exit)) (withOldest (now (oldest .exit)) s))))))) (now (heap .entry)) ⌝ }
+{
+    let r = calls_regions::subregion_in(
+        made,
+        given,
+        names,
+        parents,
+        levels,
+        shares,
+        newest,
+        oldest,
+        heap,
+        region,
     );
     *value = r.a;
     r.refusal
@@ -518,5 +569,23 @@ pub extern "C" fn region_store_delete<'a>(
         filler,
     );
     *value = r.a;
+    r.refusal
+}
+
+// Call 25 (document 02, card 4): the page of an object, and its header's word there.
+#[no_mangle]
+pub extern "C" fn region_store_locate(
+    made: u32,
+    standing: u32,
+    widths: &[u8; 32],
+    slots: &[u32; 256],
+    heap: &[u32],
+    slot: u32,
+    values: &mut [u32; 2],
+) -> u32
+    ensures { λ g. ⌜ InPlace (ask (locate slot)) (λ s. withMade made (withStanding standing (withWidths (now (widths .entry)) (withSlots (now (slots .entry)) s)))) (now (heap .entry)) (replyWith g (now (values .exit))) (λ s. s) (now (heap .entry)) ⌝ }
+{
+    let r = calls_about::locate_in(made, standing, widths, slots, heap, slot);
+    *values = [r.a, r.b];
     r.refusal
 }

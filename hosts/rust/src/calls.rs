@@ -86,9 +86,27 @@ impl Store {
     /// # Ok(())
     /// # }
     /// ```
+    #[inline]
     pub fn declare(&mut self, marks: &[u32]) -> Result<u32, Refusal> {
-        let v = accepted(self.act(2, [0; 4], marks))?;
-        Ok(v[1])
+        let (s, heap, words) = self.lent();
+        let [_, _, declared, _, made] = &mut s.numbers;
+        let mut v = 0;
+        // SAFETY: see `Store::lent`.
+        let refusal = unsafe {
+            region_store_declare(
+                *made,
+                declared,
+                &mut s.sizes,
+                &mut s.marks,
+                heap,
+                words,
+                marks.as_ptr(),
+                marks.len(),
+                &mut v,
+            )
+        };
+        passed(refusal)?;
+        Ok(v)
     }
 
     /// Makes a region that lies in no other, and gives its name.
@@ -170,9 +188,30 @@ impl Store {
     /// # Ok(())
     /// # }
     /// ```
+    #[inline]
     pub fn subregion(&mut self, region: u32) -> Result<u32, Refusal> {
-        let v = accepted(self.act(4, [region, 0, 0, 0], &[]))?;
-        Ok(v[1])
+        let (s, heap, words) = self.lent();
+        let [_, _, _, given, made] = &mut s.numbers;
+        let mut v = 0;
+        // SAFETY: see `Store::lent`.
+        let refusal = unsafe {
+            region_store_subregion(
+                *made,
+                given,
+                &mut s.names,
+                &mut s.parents,
+                &mut s.levels,
+                &mut s.shares,
+                &mut s.newest,
+                &mut s.oldest,
+                heap,
+                words,
+                region,
+                &mut v,
+            )
+        };
+        passed(refusal)?;
+        Ok(v)
     }
 
     /// Puts a frame of 1 to 8 null slots on the stack, and gives how many frames stand.
@@ -1036,11 +1075,21 @@ impl Store {
     /// - 21 [`Refusal::WrongHeap`], the heap's length is not the one made, or none was made, since make refused
     /// - 6 [`Refusal::NoFrame`], no frame, or fewer than the two that the call needs
     /// - 9 [`Refusal::NoSlot`], a slot named is not there
+    #[inline]
     pub fn locate(&self, slot: u32) -> Result<Locate, Refusal> {
-        let v = accepted(self.ask(Ask::Locate, [slot, 0, 0, 0], &[]))?;
+        let mut v = [0; 2];
+        // SAFETY: see `Store::shown`.
+        let refusal = unsafe {
+            let (s, heap, words) = self.shown();
+            let [standing, _, _, _, made] = s.numbers;
+            region_store_locate(
+                made, standing, &s.widths, &s.slots, heap, words, slot, &mut v,
+            )
+        };
+        passed(refusal)?;
         Ok(Locate {
-            page: v[1],
-            word: v[2],
+            page: v[0],
+            word: v[1],
         })
     }
 }

@@ -157,7 +157,7 @@ impl Store {
 
     /// The state and the heap, to be lent to a function of the library for one call.
     ///
-    /// That is right: the pointers are this store's own, aligned and not null, with the heap's true length; the arrays that the call writes and reads are different members of the state; and `&mut self` says that no reference to the heap lives.
+    /// That is right: the pointers are this store's own, aligned and not null, with the heap's true length; the arrays that the call writes and reads are different members of the state; and `&mut self` says that no reference to the heap lives, so that a list is none of it.
     pub(crate) fn lent(&mut self) -> (&mut State, *mut u32, usize) {
         let (heap, words) = (self.words(), self.heap.len());
         (self.state.get_mut(), heap, words)

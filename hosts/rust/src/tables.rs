@@ -173,6 +173,17 @@ extern "C" {
         out: *mut [u32; 3],
     );
     pub(crate) fn region_store_layout(out: *mut u32, room: usize) -> usize;
+    pub(crate) fn region_store_declare(
+        made: u32,
+        declared: &mut u32,
+        sizes: &mut [u8; 16],
+        marks: &mut [u8; 256],
+        heap: *const u32,
+        words: usize,
+        list: *const u32,
+        count: usize,
+        value: &mut u32,
+    ) -> u32;
     pub(crate) fn region_store_new_region(
         made: u32,
         given: &mut u32,
@@ -184,6 +195,20 @@ extern "C" {
         oldest: &mut [u32; 64],
         heap: *const u32,
         words: usize,
+        value: &mut u32,
+    ) -> u32;
+    pub(crate) fn region_store_subregion(
+        made: u32,
+        given: &mut u32,
+        names: &mut [u32; 64],
+        parents: &mut [u8; 64],
+        levels: &mut [u8; 64],
+        shares: &mut [u32; 256],
+        newest: &mut [u16; 64],
+        oldest: &mut [u32; 64],
+        heap: *const u32,
+        words: usize,
+        region: u32,
         value: &mut u32,
     ) -> u32;
     pub(crate) fn region_store_push(
@@ -411,6 +436,16 @@ extern "C" {
         filler: u32,
         value: &mut u32,
     ) -> u32;
+    pub(crate) fn region_store_locate(
+        made: u32,
+        standing: u32,
+        widths: &[u8; 32],
+        slots: &[u32; 256],
+        heap: *const u32,
+        words: usize,
+        slot: u32,
+        values: &mut [u32; 2],
+    ) -> u32;
 }
 
 /// Calls a function of the library with the arrays of a state (a `*mut State`), then the rest of its arguments.
@@ -442,7 +477,6 @@ pub(crate) use lend;
 #[repr(u32)]
 pub(crate) enum Ask {
     Audit = 22,
-    Locate = 25,
 }
 
 /// Why a call was refused. A refused call has changed nothing.
