@@ -4,7 +4,7 @@ use script::PAGES;
 use state::Reply;
 ghost use mathlib.Core.Path.{_≡_};
 ghost use mathlib.Core.Bool.{true};
-ghost use Prim.Native.Nat.{_<_, _≤_};
+ghost use Prim.Native.Nat.{_≤_};
 ghost use lib.ListN.{length, getD, take};
 ghost use Rattle.model.specs.Model.{view};
 ghost use Rattle.state.specs.declared.State.{State};
@@ -72,7 +72,7 @@ fn called(
     heap: &mut [u32],
     l: Line,
 ) -> Reply
-    ensures { λ r. ⌜ (length (now (heap .entry)) < 4294967296 → Called l (store (stateOf (now (standing .entry)) (now (counted .entry)) (now (declared .entry)) (now (given .entry)) (now (made .entry)) (now (widths .entry)) (now (slots .entry)) (now (sizes .entry)) (now (marks .entry)) (now (names .entry)) (now (parents .entry)) (now (levels .entry)) (now (shares .entry)) (now (newest .entry)) (now (oldest .entry)) (now (owners .entry)) (now (taken .entry))) (now (heap .entry))) r (store (stateOf (now (standing .exit)) (now (counted .exit)) (now (declared .exit)) (now (given .exit)) (now (made .exit)) (now (widths .exit)) (now (slots .exit)) (now (sizes .exit)) (now (marks .exit)) (now (names .exit)) (now (parents .exit)) (now (levels .exit)) (now (shares .exit)) (now (newest .exit)) (now (oldest .exit)) (now (owners .exit)) (now (taken .exit))) (now (heap .exit)))) ⌝ }
+    ensures { λ r. ⌜ Called l (store (stateOf (now (standing .entry)) (now (counted .entry)) (now (declared .entry)) (now (given .entry)) (now (made .entry)) (now (widths .entry)) (now (slots .entry)) (now (sizes .entry)) (now (marks .entry)) (now (names .entry)) (now (parents .entry)) (now (levels .entry)) (now (shares .entry)) (now (newest .entry)) (now (oldest .entry)) (now (owners .entry)) (now (taken .entry))) (now (heap .entry))) r (store (stateOf (now (standing .exit)) (now (counted .exit)) (now (declared .exit)) (now (given .exit)) (now (made .exit)) (now (widths .exit)) (now (slots .exit)) (now (sizes .exit)) (now (marks .exit)) (now (names .exit)) (now (parents .exit)) (now (levels .exit)) (now (shares .exit)) (now (newest .exit)) (now (oldest .exit)) (now (owners .exit)) (now (taken .exit))) (now (heap .exit))) ⌝ }
 {
     let a = l.args;
     let f = l.filler;
