@@ -17,7 +17,7 @@ quiet() { # COMMAND..: what it prints is shown where it fails
 }
 
 collected() { # PAD COMMAND..: the instructions of a run, with the environment longer by PAD
-    PAD=$1 valgrind --tool=callgrind --callgrind-out-file=/dev/null "${@:2}" 2>&1 >/dev/null | sed -n 's/.*Collected : \([0-9]*\).*/\1/p'
+    PAD=$1 LD_BIND_NOW=1 valgrind --tool=callgrind --callgrind-out-file=/dev/null "${@:2}" 2>&1 >/dev/null | sed -n 's/.*Collected : \([0-9]*\).*/\1/p'
 }
 
 # By where the stack starts, in steps of 16 bytes, memcpy takes more instructions or fewer, up to a tenth of a call by value.
@@ -40,9 +40,10 @@ told() { # FILE NAME: what a line of it says of that name, - where none does
     awk -v name="$2" '$1 == name { print $2; found = 1 } END { if (!found) print "-" }' "$1"
 }
 
-row() { # CELL..: a line of the table, with commas in its numbers
+row() { # CELL..: a line of the table; from 100 on numbers are whole, and they have commas
+    local cell
     printf '|'
-    printf ' %s |' "$@" | sed -e ':a' -e 's/\([0-9]\)\([0-9]\{3\}\)\($\|[^0-9]\)/\1,\2\3/' -e 'ta'
+    for cell in "$@"; do printf ' %s |' "${cell:--}"; done | sed -e 's/\([0-9]\{3\}\)\.[0-9]/\1/g' -e ':a' -e 's/\([0-9]\)\([0-9]\{3\}\)\($\|[^0-9]\)/\1,\2\3/' -e 'ta'
     echo
 }
 
