@@ -230,6 +230,71 @@ pub extern "C" fn region_store_view(
     *out = [v.refusal, v.place, v.count];
 }
 
+// Audit by itself, for a host that asks whether memory is a store before it makes any call on it. It is also what keeps audit's own 16 KB of stack out of region_store_call: the compiler puts a function that is called in two places into neither.
+#[no_mangle]
+pub extern "C" fn region_store_audit<'a>(
+    numbers: &[u32; 5],
+    widths: &'a [u8; 32],
+    slots: &'a [u32; 256],
+    sizes: &'a [u8; 16],
+    marks: &'a [u8; 256],
+    names: &'a [u32; 64],
+    parents: &'a [u8; 64],
+    levels: &'a [u8; 64],
+    shares: &'a [u32; 256],
+    newest: &'a [u16; 64],
+    oldest: &'a [u32; 64],
+    owners: &'a [u8; 256],
+    taken: &'a [u8; 256],
+    heap: &[u32],
+    reply: &mut [u32; 5],
+)
+    ensures { λ _. ⌜ Called 22 0 0 0 0 [] (now (numbers .entry) ∷ now (widths .entry) ∷ now (slots .entry) ∷ now (sizes .entry) ∷ now (marks .entry) ∷ now (names .entry) ∷ now (parents .entry) ∷ now (levels .entry) ∷ now (shares .entry) ∷ now (newest .entry) ∷ now (oldest .entry) ∷ now (owners .entry) ∷ now (taken .entry) ∷ []) (now (heap .entry)) (now (numbers .entry) ∷ now (widths .entry) ∷ now (slots .entry) ∷ now (sizes .entry) ∷ now (marks .entry) ∷ now (names .entry) ∷ now (parents .entry) ∷ now (levels .entry) ∷ now (shares .entry) ∷ now (newest .entry) ∷ now (oldest .entry) ∷ now (owners .entry) ∷ now (taken .entry) ∷ []) (now (heap .entry)) (now (reply .exit)) ⌝ }
+{
+    let n = *numbers;
+    five(n);
+    shapes::arrays_shaped(
+        n[0],
+        n[1],
+        n[2],
+        n[3],
+        n[4],
+        *widths,
+        *slots,
+        *sizes,
+        *marks,
+        *names,
+        *parents,
+        *levels,
+        *shares,
+        *newest,
+        *oldest,
+        *owners,
+        *taken,
+    );
+    let r = store::audit_in(
+        n[4],
+        n[0],
+        n[1],
+        n[2],
+        n[3],
+        widths,
+        slots,
+        sizes,
+        marks,
+        names,
+        parents,
+        levels,
+        shares,
+        newest,
+        oldest,
+        owners,
+        taken,
+        heap,
+    );
+    *reply = [r.refusal, r.a, r.b, r.c, r.d];
+}
+
 // Numbers written from the start on, as far as there is room.
 fn write(out: &mut [u32], l: &[u32])
     ensures { λ _. ⌜ now (out .exit) ≡ sets (now (out .entry)) 0 (now (l .entry)) ⌝ }

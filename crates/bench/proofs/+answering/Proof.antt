@@ -1,4 +1,4 @@
-use mathlib.Core.Path.{_≡_}
+use mathlib.Core.Path.{_≡_, ap, _∙_}
 use mathlib.Core.Logic.{⊎-elim}
 use Prim.Native.Nat.{ℕ, _<_, _-_}
 use lib.ListN.{length}
@@ -46,13 +46,13 @@ pub +answering-spec : {M : Type 1} → statement M
     (λ c. search needs) (λ c. search needs) (λ c κs. search needs) (λ c. search needs) (λ c κs. search needs) (λ c κs. search needs) (λ c κs. search needs) (λ c. search needs) (λ c κs. search needs)
     (λ c κs. search needs) (λ c κs. search needs) (λ c κs. search needs) (λ c κs. search needs) (λ c κs. search needs)
     (λ c κs. search needs) (λ c. search needs)
-    (λ c. let inv = c .before .before .before .before .before .before .loop .inv in ⊎-elim (λ w. search (needs, inv, w .5, w .3 .given))
-    (⊎-elim (λ w. search (needs, inv, w .3))
-    (⊎-elim (λ w. search (needs, inv, w .3))
-    (⊎-elim (λ w. search (needs, inv, w .3))
-    (⊎-elim (λ w. search (needs, inv, w .3))
-    (⊎-elim (λ w. search (needs, inv, w .3))
-    (⊎-elim (λ w. search (needs, inv, w .3))
-    (⊎-elim (λ w. search (needs, inv, w .3))
-    (λ w. search (needs, inv, w .3))))))))) (c .before .match .came))
+    (λ c. let inv = c .before .before .before .before .before .before .loop .inv in ⊎-elim (λ w. ap length (w .5) ∙ w .3 .given ∙ inv)
+    (⊎-elim (λ w. ap length (w .3) ∙ inv)
+    (⊎-elim (λ w. ap length (w .4) ∙ inv)
+    (⊎-elim (λ w. ap length (w .3) ∙ inv)
+    (⊎-elim (λ w. ap length (w .3) ∙ inv)
+    (⊎-elim (λ w. ap length (w .3) ∙ inv)
+    (⊎-elim (λ w. ap length (w .2) ∙ inv)
+    (⊎-elim (λ w. ap length (w .3) ∙ inv)
+    (λ w. ap length (w .3) ∙ inv)))))))) (c .before .match .came))
     (λ c. search needs) (λ c. search needs) (λ c. search needs) (λ c. search needs))
