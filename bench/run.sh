@@ -81,19 +81,15 @@ row --- --- --- --- --- --- --- --- --- --- ---
 done
 [ $# -eq 0 ] || exit 0
 
-# Of a script of 1 MiB the instructions of a line; of two of 10 million bytes, with few reports and audits and with many, the time, printed to nowhere.
+# Scripts with few reports and audits, and with many: of 1 MiB the instructions of a line, of 10 million bytes the time, printed to nowhere.
 quiet rt check drive
-script() { # REPORTS AUDITS BYTES: writes it, and gives what it has
-    python3 bench/script.py "$@" 2>&1 >"$out/script"
-}
-said=$(script 10 1 1048576)
-quiet drive "$out/script"
-lines=$(wc -l <"$out/script")
-whole=$(collected '' target/bin/drive <"$out/script")
-echo "script of $said: $((whole / lines)) instructions a line"
 for rates in '10 1' '140 5'; do
     # shellcheck disable=SC2086
-    said=$(script $rates 10000000)
+    python3 bench/script.py $rates 1048576 >"$out/script" 2>"$out/log"
     quiet drive "$out/script"
-    echo "script of $said: $(least drive "$out/script") s"
+    line=$(($(collected '' target/bin/drive <"$out/script") / $(wc -l <"$out/script")))
+    # shellcheck disable=SC2086
+    said=$(python3 bench/script.py $rates 2>&1 >"$out/script")
+    quiet drive "$out/script"
+    echo "script of $said: $(least drive "$out/script") s; of 1 MiB, $line instructions a line"
 done
