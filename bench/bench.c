@@ -2,7 +2,7 @@
 //   bench                 a line for each name: the name, and two numbers, runs of which are to be counted
 //   bench WAY NAME        the least nanoseconds of processor time of one
 //   bench WAY NAME N      a run of N, for a tool that counts instructions
-// WAY is `place` or `value`. A run makes its store first, so what one costs is the difference of two runs. Where there is no such way, nothing is printed.
+// WAY is `place` or `value`. A run makes its store first, so what one costs is the difference of two runs. Where there is no such way nothing is printed, and a run gives 2.
 #include <inttypes.h>
 #include <stdint.h>
 #include <stdio.h>
@@ -220,7 +220,7 @@ int main(int argc, char **argv) {
     }
     const struct line *l = named(argv[2]);
     uint32_t way = strcmp(argv[1], "value") == 0 ? l->by_value : l->in_place;
-    if (way == NOT) return 2;
+    if (way == NOT) return argc > 3 ? 2 : 0;
     if (argc > 3)
         checked(l, way, strtoul(argv[3], NULL, 10));
     else if (l->most > 1)

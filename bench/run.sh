@@ -17,7 +17,7 @@ quiet() { # COMMAND..: what it prints is shown where it fails
 }
 
 collected() { # PAD COMMAND..: the instructions of a run, with the environment longer by PAD
-    PAD=$1 valgrind --tool=callgrind --callgrind-out-file=/dev/null "${@:2}" 2>&1 >/dev/null | sed -n 's/.*Collected : \([0-9]*\).*/\1/p'
+    PAD=$1 LD_BIND_NOW=1 valgrind --tool=callgrind --callgrind-out-file=/dev/null "${@:2}" 2>&1 >/dev/null | sed -n 's/.*Collected : \([0-9]*\).*/\1/p'
 }
 
 # By where the stack starts, in steps of 16 bytes, memcpy takes more instructions or fewer, up to a tenth of a call by value.
@@ -40,9 +40,10 @@ told() { # FILE NAME: what a line of it says of that name, - where none does
     awk -v name="$2" '$1 == name { print $2; found = 1 } END { if (!found) print "-" }' "$1"
 }
 
-row() { # CELL..: a line of the table, with commas in its numbers
+row() { # CELL..: a line of the table; from 100 on numbers are whole, and they have commas
+    local cell
     printf '|'
-    printf ' %s |' "$@" | sed -e ':a' -e 's/\([0-9]\)\([0-9]\{3\}\)\($\|[^0-9]\)/\1,\2\3/' -e 'ta'
+    for cell in "$@"; do printf ' %s |' "${cell:--}"; done | sed -e 's/\([0-9]\{3\}\)\.[0-9]/\1/g' -e ':a' -e 's/\([0-9]\)\([0-9]\{3\}\)\($\|[^0-9]\)/\1,\2\3/' -e 'ta'
     echo
 }
 
@@ -80,19 +81,15 @@ row --- --- --- --- --- --- --- --- --- --- ---
 done
 [ $# -eq 0 ] || exit 0
 
-# Of a script of 1 MiB the instructions of a line; of two of 10 million bytes, with few reports and audits and with many, the time, printed to nowhere.
+# Scripts with few reports and audits, and with many: of 1 MiB the instructions of a line, of 10 million bytes the time, printed to nowhere.
 quiet rt check drive
-script() { # REPORTS AUDITS BYTES: writes it, and gives what it has
-    python3 bench/script.py "$@" 2>&1 >"$out/script"
-}
-said=$(script 10 1 1048576)
-quiet drive "$out/script"
-lines=$(wc -l <"$out/script")
-whole=$(collected '' target/bin/drive <"$out/script")
-echo "script of $said: $((whole / lines)) instructions a line"
 for rates in '10 1' '140 5'; do
     # shellcheck disable=SC2086
-    said=$(script $rates 10000000)
+    python3 bench/script.py $rates 1048576 >"$out/script" 2>"$out/log"
     quiet drive "$out/script"
-    echo "script of $said: $(least drive "$out/script") s"
+    line=$(($(collected '' target/bin/drive <"$out/script") / $(wc -l <"$out/script")))
+    # shellcheck disable=SC2086
+    said=$(python3 bench/script.py $rates 2>&1 >"$out/script")
+    quiet drive "$out/script"
+    echo "script of $said: $(least drive "$out/script") s; of 1 MiB, $line instructions a line"
 done
