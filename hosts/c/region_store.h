@@ -229,6 +229,11 @@ void region_store_view(
     const uint32_t *names, const uint8_t *parents, const uint8_t *levels, const uint32_t *shares, const uint16_t *newest,
     const uint32_t *oldest, const uint8_t *owners, const uint8_t *taken,
     const uint32_t *heap, size_t words, uint32_t slot, uint32_t *out);
+void region_store_audit(
+    const uint32_t *numbers, const uint8_t *widths, const uint32_t *slots, const uint8_t *sizes, const uint8_t *marks,
+    const uint32_t *names, const uint8_t *parents, const uint8_t *levels, const uint32_t *shares, const uint16_t *newest,
+    const uint32_t *oldest, const uint8_t *owners, const uint8_t *taken,
+    const uint32_t *heap, size_t words, uint32_t *reply);
 size_t region_store_layout(uint32_t *out, size_t room);
 uint32_t region_store_declare(
     uint32_t made, uint32_t *declared, uint8_t *sizes, uint8_t *marks, const uint32_t *heap, size_t words,
@@ -677,7 +682,9 @@ static inline struct rs_reply rs_totals(struct rs_store *s)
 // Never refused.
 static inline struct rs_reply rs_audit(struct rs_store *s)
 {
-    return rs_call(s, RS_CALL_AUDIT, 0, 0, 0, 0, NULL, 0);
+    uint32_t reply[5] = {0, 0, 0, 0, 0};
+    region_store_audit(RS_LENT(&s->state), s->heap, s->words, reply);
+    return rs_reply_of(reply);
 }
 
 // Deletes a region, and gives how many pages that frees.

@@ -55,6 +55,7 @@ function library(    i) {
     printf "void region_store_make(\n    %s,\n    uint32_t *heap, size_t words, uint32_t *reply);\n", lent("")
     printf "void region_store_call(\n    %s,\n    uint32_t *heap, size_t words, uint32_t number, uint32_t a, uint32_t b, uint32_t c, uint32_t d,\n    const uint32_t *list, size_t count, uint32_t *reply);\n", lent("")
     printf "void region_store_view(\n    %s,\n    const uint32_t *heap, size_t words, uint32_t slot, uint32_t *out);\n", lent("const ")
+    printf "void region_store_audit(\n    %s,\n    const uint32_t *heap, size_t words, uint32_t *reply);\n", lent("const ")
     print "size_t region_store_layout(uint32_t *out, size_t room);"
     for (i = 1; i <= calls; i++) if (call_name[i] in direct) print "uint32_t region_store_" call_name[i] "(" filled(direct_takes(i), "    ") ");"
 }
@@ -202,6 +203,13 @@ function passed(i,    parts, n, j, given, list, s) {
     return s list
 }
 
+# audit has a function that only reads, for the memory whole
+function audit_body() {
+    print "    uint32_t reply[5] = {0, 0, 0, 0, 0};"
+    print "    region_store_audit(RS_LENT(&s->state), s->heap, s->words, reply);"
+    print "    return rs_reply_of(reply);"
+}
+
 # make and view are written by hand
 function by_hand(i) { return call_name[i] == "make" || call_name[i] == "view" }
 
@@ -213,6 +221,7 @@ function named_calls(    i, begun) {
         printf "// %s\n%s// %s\n// %s\n", call_what[i], takes(i), gives(i), refused_by(i)
         printf "static inline struct rs_reply rs_%s(%s)\n{\n", call_name[i], parameters(i)
         if (call_name[i] in direct) direct_body(i)
+        else if (call_name[i] == "audit") audit_body()
         else printf "    return rs_call(s, RS_CALL_%s, %s);\n", upper(call_name[i]), passed(i)
         print "}"
     }

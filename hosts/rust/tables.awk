@@ -108,17 +108,21 @@ function library(    i) {
     print "        slot: u32,"
     print "        out: *mut [u32; 3],"
     print "    );"
+    print "    pub(crate) fn region_store_audit("
+    lent_arrays("const")
+    print "        reply: *mut [u32; 5],"
+    print "    );"
     print "    pub(crate) fn region_store_layout(out: *mut u32, room: usize) -> usize;"
     for (i = 1; i <= calls; i++) if (call_name[i] in direct) declared_direct(i)
     print "}"
     print ""
-    print "/// Calls a function of the library with the arrays of a state (a `*mut State`), then the rest of its arguments."
+    print "/// Calls a function of the library with the arrays of a state, which it writes (`mut`) or only reads (`const`), then the rest of its arguments."
     print "macro_rules! lend {"
-    print "    ($function:ident, $state:expr, $($rest:expr),+ $(,)?) => {{"
-    print "        let state: *mut $crate::tables::State = $state;"
+    print "    ($how:tt $function:ident, $state:expr, $($rest:expr),+ $(,)?) => {{"
+    print "        let state: *$how $crate::tables::State = $state;"
     print "        $crate::tables::$function("
-    print "            &raw mut (*state).numbers,"
-    for (i = 1; i <= arrays; i++) print "            &raw mut (*state)." array_name[i] ","
+    print "            &raw $how (*state).numbers,"
+    for (i = 1; i <= arrays; i++) print "            &raw $how (*state)." array_name[i] ","
     print "            $($rest),+"
     print "        )"
     print "    }};"
@@ -151,16 +155,6 @@ function declared_direct(i,    a, n, k) {
     n = words(call_values[i], a)
     if (n) print "        " (n == 1 ? "value: &mut u32," : "values: &mut [u32; " n "],")
     print "    ) -> u32;"
-}
-
-function asking(    i) {
-    print "/// The calls that only ask and are made by their numbers: they leave the state and the heap as they are."
-    print "#[derive(Clone, Copy)]"
-    print "#[repr(u32)]"
-    print "pub(crate) enum Ask {"
-    for (i = 1; i <= calls; i++)
-        if (call_asks[i] && call_name[i] != "view" && !(call_name[i] in direct)) print "    " camel(call_name[i]) " = " call_number[i] ","
-    print "}"
 }
 
 function refused(    i) {
@@ -445,7 +439,7 @@ function reply(i,    a, n, k, numbers_in, list, count) {
     }
     if (!count) numbers_in = "0; 4"
     else for (; count < 4; count++) numbers_in = joined(numbers_in, "0")
-    if (call_asks[i]) return "self.ask(Ask::" camel(call_name[i]) ", [" numbers_in "], " list ")"
+    if (call_asks[i]) bad("by its number a call is not known to leave the memory alone: " call_name[i] " wants a direct line", call_line[i])
     return "self.act(" call_number[i] ", [" numbers_in "], " list ")"
 }
 
@@ -477,31 +471,35 @@ function direct_given(i,    a, n, k, name, s) {
 
 # A direct call, and the refusal that it gives.
 function direct_call(i,    a, n) {
-    if (!call_asks[i]) {
-        print "        let (s, heap, words) = self.lent();"
-        print "        let " number_pattern(i) " = &mut s.numbers;"
-    }
+    print "        let (s, " (direct[call_name[i]] ~ /heap/ ? "heap, words" : "_, _") ") = self." (call_asks[i] ? "shown" : "lent") "();"
+    print "        let " number_pattern(i) " = " (call_asks[i] ? "" : "&mut ") "s.numbers;"
     n = words(call_values[i], a)
     if (n) print "        let mut v = " (n == 1 ? "0" : "[0; " n "]") ";"
     print "        // SAFETY: see `Store::" (call_asks[i] ? "shown" : "lent") "`."
-    print "        let refusal = unsafe {"
-    if (call_asks[i]) {
-        print "            let (s, " (direct[call_name[i]] ~ /heap/ ? "heap, words" : "_, _") ") = self.shown();"
-        print "            let " number_pattern(i) " = s.numbers;"
-    }
-    given_to("region_store_" call_name[i], direct_given(i), "            ")
-    print "        };"
+    given_to("region_store_" call_name[i], direct_given(i))
 }
 
-# A function's call as rustfmt lays it out: on one line if its arguments take 60 columns; filled lines if each takes 10 at most; else a line for each.
-function given_to(name, list, margin,    a, n, k, long) {
+# The call of a function, as rustfmt lays it out: on one line if its arguments take at most 60 columns, and with the block around it if that fits; on filled lines if each argument takes at most 10; else on a line for each.
+function given_to(name, list,    a, n, k, long, line) {
     n = split(list, a, " / ")
     for (k = 1; k <= n; k++) if (length(a[k]) > 10) long = 1
-    if (length(list) - n + 1 <= 60) { gsub(/ \/ /, ", ", list); print margin name "(" list ")"; return }
-    print margin name "("
-    if (!long) filled(list, margin "    ")
-    for (k = 1; k <= n && long; k++) print margin "    " a[k] ","
-    print margin ")"
+    line = list
+    gsub(/ \/ /, ", ", line)
+    line = length(line) <= 60 ? name "(" line ")" : ""
+    if (line != "" && length(line) + 24 <= 100) {
+        print "        let refusal ="
+        print "            unsafe { " line " };"
+        return
+    }
+    print "        let refusal = unsafe {"
+    if (line != "") print "            " line
+    else {
+        print "            " name "("
+        if (!long) filled(list, "                ")
+        for (k = 1; k <= n && long; k++) print "                " a[k] ","
+        print "            )"
+    }
+    print "        };"
 }
 
 # What a method gives: its values are those of v from the place `first` on, or v itself.
@@ -528,6 +526,7 @@ function method(i,    t) {
     if (call_name[i] in direct) print "    #[inline]"
     head(i, call_refusals[i] == "" ? t : "Result<" t ", Refusal>")
     if (call_name[i] == "view") print "        self.part(slot)"
+    else if (call_name[i] == "audit") print "        self.audited()[1] == 1"
     else if (call_name[i] in direct) {
         direct_call(i)
         print "        passed(refusal)" (t == "()" ? "" : (call_refusals[i] == "" ? ".expect(\"it is never refused\");" : "?;"))
@@ -604,8 +603,6 @@ END {
         state()
         print ""
         library()
-        print ""
-        asking()
         print ""
         refused()
         print ""

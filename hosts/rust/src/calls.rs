@@ -726,11 +726,11 @@ impl Store {
     /// - 16 [`Refusal::WrongWord`], the word is data where a pointer is wanted, or the other way round; for view, some word is no data
     #[inline]
     pub fn get(&self, slot: u32, word: u32) -> Result<u32, Refusal> {
+        let (s, heap, words) = self.shown();
+        let [standing, _, declared, _, made] = s.numbers;
         let mut v = 0;
         // SAFETY: see `Store::shown`.
         let refusal = unsafe {
-            let (s, heap, words) = self.shown();
-            let [standing, _, declared, _, made] = s.numbers;
             region_store_get(
                 made, standing, declared, &s.widths, &s.slots, &s.sizes, &s.marks, heap, words,
                 slot, word, &mut v,
@@ -810,11 +810,11 @@ impl Store {
     /// - 9 [`Refusal::NoSlot`], a slot named is not there
     #[inline]
     pub fn same(&self, slot: u32, other: u32) -> Result<bool, Refusal> {
+        let (s, heap, words) = self.shown();
+        let [standing, _, _, _, made] = s.numbers;
         let mut v = 0;
         // SAFETY: see `Store::shown`.
         let refusal = unsafe {
-            let (s, heap, words) = self.shown();
-            let [standing, _, _, _, made] = s.numbers;
             region_store_same(
                 made, standing, &s.widths, &s.slots, heap, words, slot, other, &mut v,
             )
@@ -839,11 +839,11 @@ impl Store {
     /// - 9 [`Refusal::NoSlot`], a slot named is not there
     #[inline]
     pub fn about(&self, slot: u32) -> Result<About, Refusal> {
+        let (s, heap, words) = self.shown();
+        let [standing, _, _, _, made] = s.numbers;
         let mut v = [0; 2];
         // SAFETY: see `Store::shown`.
         let refusal = unsafe {
-            let (s, heap, words) = self.shown();
-            let [standing, _, _, _, made] = s.numbers;
             region_store_about(
                 made, standing, &s.widths, &s.slots, &s.names, &s.owners, heap, words, slot, &mut v,
             )
@@ -883,11 +883,11 @@ impl Store {
     /// ```
     #[inline]
     pub fn report(&self, region: u32) -> Result<Report, Refusal> {
+        let (s, heap, words) = self.shown();
+        let [standing, counted, _, _, made] = s.numbers;
         let mut v = [0; 4];
         // SAFETY: see `Store::shown`.
         let refusal = unsafe {
-            let (s, heap, words) = self.shown();
-            let [standing, counted, _, _, made] = s.numbers;
             region_store_report(
                 made, standing, counted, &s.widths, &s.slots, &s.names, &s.parents, &s.shares,
                 &s.owners, heap, words, region, &mut v,
@@ -920,13 +920,12 @@ impl Store {
     #[must_use]
     #[inline]
     pub fn totals(&self) -> Totals {
+        let (s, _, _) = self.shown();
+        let [standing, counted, _, _, made] = s.numbers;
         let mut v = [0; 4];
         // SAFETY: see `Store::shown`.
-        let refusal = unsafe {
-            let (s, _, _) = self.shown();
-            let [standing, counted, _, _, made] = s.numbers;
-            region_store_totals(made, standing, counted, &s.names, &s.owners, &mut v)
-        };
+        let refusal =
+            unsafe { region_store_totals(made, standing, counted, &s.names, &s.owners, &mut v) };
         passed(refusal).expect("it is never refused");
         Totals {
             free_pages: v[0],
@@ -952,8 +951,7 @@ impl Store {
     /// ```
     #[must_use]
     pub fn audit(&self) -> bool {
-        let v = self.ask(Ask::Audit, [0; 4], &[]);
-        v[1] == 1
+        self.audited()[1] == 1
     }
 
     /// Deletes a region, and gives how many pages that frees.
@@ -1077,11 +1075,11 @@ impl Store {
     /// - 9 [`Refusal::NoSlot`], a slot named is not there
     #[inline]
     pub fn locate(&self, slot: u32) -> Result<Locate, Refusal> {
+        let (s, heap, words) = self.shown();
+        let [standing, _, _, _, made] = s.numbers;
         let mut v = [0; 2];
         // SAFETY: see `Store::shown`.
         let refusal = unsafe {
-            let (s, heap, words) = self.shown();
-            let [standing, _, _, _, made] = s.numbers;
             region_store_locate(
                 made, standing, &s.widths, &s.slots, heap, words, slot, &mut v,
             )

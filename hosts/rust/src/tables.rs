@@ -172,6 +172,24 @@ extern "C" {
         slot: u32,
         out: *mut [u32; 3],
     );
+    pub(crate) fn region_store_audit(
+        numbers: *const [u32; 5],
+        widths: *const [u8; 32],
+        slots: *const [u32; 256],
+        sizes: *const [u8; 16],
+        marks: *const [u8; 256],
+        names: *const [u32; 64],
+        parents: *const [u8; 64],
+        levels: *const [u8; 64],
+        shares: *const [u32; 256],
+        newest: *const [u16; 64],
+        oldest: *const [u32; 64],
+        owners: *const [u8; 256],
+        taken: *const [u8; 256],
+        heap: *const u32,
+        words: usize,
+        reply: *mut [u32; 5],
+    );
     pub(crate) fn region_store_layout(out: *mut u32, room: usize) -> usize;
     pub(crate) fn region_store_declare(
         made: u32,
@@ -448,36 +466,29 @@ extern "C" {
     ) -> u32;
 }
 
-/// Calls a function of the library with the arrays of a state (a `*mut State`), then the rest of its arguments.
+/// Calls a function of the library with the arrays of a state, which it writes (`mut`) or only reads (`const`), then the rest of its arguments.
 macro_rules! lend {
-    ($function:ident, $state:expr, $($rest:expr),+ $(,)?) => {{
-        let state: *mut $crate::tables::State = $state;
+    ($how:tt $function:ident, $state:expr, $($rest:expr),+ $(,)?) => {{
+        let state: *$how $crate::tables::State = $state;
         $crate::tables::$function(
-            &raw mut (*state).numbers,
-            &raw mut (*state).widths,
-            &raw mut (*state).slots,
-            &raw mut (*state).sizes,
-            &raw mut (*state).marks,
-            &raw mut (*state).names,
-            &raw mut (*state).parents,
-            &raw mut (*state).levels,
-            &raw mut (*state).shares,
-            &raw mut (*state).newest,
-            &raw mut (*state).oldest,
-            &raw mut (*state).owners,
-            &raw mut (*state).taken,
+            &raw $how (*state).numbers,
+            &raw $how (*state).widths,
+            &raw $how (*state).slots,
+            &raw $how (*state).sizes,
+            &raw $how (*state).marks,
+            &raw $how (*state).names,
+            &raw $how (*state).parents,
+            &raw $how (*state).levels,
+            &raw $how (*state).shares,
+            &raw $how (*state).newest,
+            &raw $how (*state).oldest,
+            &raw $how (*state).owners,
+            &raw $how (*state).taken,
             $($rest),+
         )
     }};
 }
 pub(crate) use lend;
-
-/// The calls that only ask and are made by their numbers: they leave the state and the heap as they are.
-#[derive(Clone, Copy)]
-#[repr(u32)]
-pub(crate) enum Ask {
-    Audit = 22,
-}
 
 /// Why a call was refused. A refused call has changed nothing.
 #[derive(Clone, Copy, Debug, PartialEq, Eq, Hash)]
