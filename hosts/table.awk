@@ -3,6 +3,7 @@
 #   numbers: number_name[i], number_what[i], i from 1
 #   arrays: array_name[i], array_width[i], array_length[i], array_what[i]
 #   calls: call_number[i], call_name[i], call_asks[i] (1 or 0), call_arguments[i], call_values[i], call_refusals[i], call_what[i]
+#   direct calls: direct[call name], what is lent, for each call that has such a line
 #   arguments: argument_what[name], the same for all calls
 #   values: value_what[call name, value name], of each call that has several
 #   refusals: refusal_name[n], reason[n], by number
@@ -21,10 +22,16 @@ function bad(why, line) {
 /^#/ || /^$/ { next }
 $1 == "version" && NF == 2 { version = $2; next }
 $1 == "magic" && NF == 2 { magic = $2; next }
-$1 == "number" && NF == 3 { numbers++; number_name[numbers] = $2; number_what[numbers] = $3; next }
+$1 == "number" && NF == 3 {
+    numbers++
+    number_name[numbers] = $2; number_what[numbers] = $3
+    number_place[$2] = numbers
+    next
+}
 $1 == "array" && NF == 5 {
     arrays++
     array_name[arrays] = $2; array_width[arrays] = $3; array_length[arrays] = $4; array_what[arrays] = $5
+    array_place[$2] = arrays
     next
 }
 $1 == "call" && NF == 8 {
@@ -34,8 +41,16 @@ $1 == "call" && NF == 8 {
     call_number[calls] = $2; call_name[calls] = $3; call_asks[calls] = $4 == "asks"
     call_arguments[calls] = $5; call_values[calls] = $6; call_refusals[calls] = $7; call_what[calls] = $8
     call_line[calls] = NR
+    call_place[$3] = calls
     note_arguments($5)
     note_values($3, $6)
+    next
+}
+$1 == "direct" && NF == 3 {
+    if (!($2 in call_place)) bad("there is no call " $2)
+    if ($2 in direct) bad("the call " $2 " has such a line already")
+    direct[$2] = $3
+    test_direct(call_place[$2], $3)
     next
 }
 $1 == "argument" && NF == 3 {
@@ -69,6 +84,22 @@ END {
     for (i = 1; i <= calls; i++) {
         test_arguments(i)
         test_values(i)
+    }
+}
+
+# What a direct call is lent: numbers, then arrays in their order, then the heap; nothing is written by a call that only asks.
+function test_direct(i, lent,    parts, n, j, name, at, last) {
+    n = split(lent, parts, " ")
+    last = 0
+    for (j = 1; j <= n; j++) {
+        name = bare(parts[j])
+        if (name in number_place) at = 0
+        else if (name in array_place) at = array_place[name]
+        else if (name == "heap") at = arrays + 1
+        else bad("there is no number or array " name)
+        if (at < last || (at > 0 && at == last)) bad(name " is not in its place: numbers, then arrays in the order of the state, then the heap")
+        last = at
+        if (is_written(parts[j]) && call_asks[i]) bad("a call that asks writes nothing, and so not " name)
     }
 }
 
@@ -110,12 +141,17 @@ function camel(name,    parts, n, i, s) {
     return s
 }
 
-# 'marks..': marks; 'same?': same
-function bare(word) { gsub(/[.?]/, "", word); return word }
+# 'marks..': marks; 'same?': same; 'slots!': slots
+function bare(word) { gsub(/[.?!]/, "", word); return word }
 
 function is_list(word) { return word ~ /[.][.]$/ }
 
 function is_flag(word) { return word ~ /[?]$/ }
+
+function is_written(word) { return word ~ /!$/ }
+
+# an argument of a direct call, as the library names it: a list is called so, and no number as an array is
+function parameter(word) { return is_list(word) ? "list" : (word in array_place) ? "count" : word }
 
 # what the only value of a call is: what an argument of that name is, and nothing where there is none
 function only_what(word) { return (bare(word) in argument_what) ? argument_what[bare(word)] : "" }

@@ -12,7 +12,7 @@
 #define MOST_LISTED 64
 #define MOST_WORDS (MOST_LISTED + 3)
 // The stores are compared each time that so many calls were made.
-#define OFTEN 1000
+#define OFTEN 20
 
 static struct rs_store named, numbered;
 static uint32_t named_heap[WORDS], numbered_heap[WORDS];

@@ -28,8 +28,9 @@
 // What the program must keep to:
 //  - A store is used by one caller at a time, also for calls that only ask: the library may write what was there.
 //  - The heap is s->words words long and stays where it is, as long as the store is used. Store, heap, list and reply do not overlap, and only calls write the heap.
-//  - Pointers are aligned as their types are. To the functions rs_* a null list or heap counts as an empty one; no other pointer may be null. (The functions region_store_* take no null pointer at all: see there.)
-//  - A call takes up to 40 KiB of stack, beside what a thread takes by itself: small threads, coroutines and signal stacks may have less.
+//  - A store is filled by rs_make or rs_file_load before any other call.
+//  - Pointers are aligned as their types are. To the functions rs_* a null list counts as an empty one, and to rs_make a null heap; no other pointer may be null, nor s->heap. (The functions region_store_* take no null pointer at all: see there.)
+//  - A call takes up to 20 KiB of stack, and one by its name less than 4 KiB but rs_audit and rs_delete_all, beside what a thread takes by itself: small threads, coroutines and signal stacks may have less.
 // Whatever bytes the state and the heap hold, every call ends, touches only what it is lent, and answers (this is proved). But what a call answers is right only for a store that rs_make made, or for one that rs_audit finds sound, and that only calls have changed since.
 //
 // A struct rs_store may be copied or moved: nothing in it points into it. Two copies share one heap, so only one of them may be used.
@@ -204,6 +205,7 @@ static inline const char *region_store_reason(uint32_t number)
 // ---- The library
 //
 // A program uses the functions further down; these are what they stand on. No pointer given to them may be null, also where a length is 0: an empty list or heap is some word with the length 0. A reply is five words: the refusal, then the values. The view's three: the refusal, the place in the heap, how many words.
+// The functions after region_store_layout make one call each, on what it reads and writes of the state alone. They give the refusal and write the values, zeros where they refuse.
 // region_store_layout writes the version of the layout, then of each array the bytes of an element and the number of elements, in the order of struct rs_state, as far as `room` goes. It gives how many numbers a layout has, whether there was room for them or not.
 
 #ifdef __cplusplus
@@ -227,7 +229,83 @@ void region_store_view(
     const uint32_t *names, const uint8_t *parents, const uint8_t *levels, const uint32_t *shares, const uint16_t *newest,
     const uint32_t *oldest, const uint8_t *owners, const uint8_t *taken,
     const uint32_t *heap, size_t words, uint32_t slot, uint32_t *out);
+void region_store_audit(
+    const uint32_t *numbers, const uint8_t *widths, const uint32_t *slots, const uint8_t *sizes, const uint8_t *marks,
+    const uint32_t *names, const uint8_t *parents, const uint8_t *levels, const uint32_t *shares, const uint16_t *newest,
+    const uint32_t *oldest, const uint8_t *owners, const uint8_t *taken,
+    const uint32_t *heap, size_t words, uint32_t *reply);
 size_t region_store_layout(uint32_t *out, size_t room);
+uint32_t region_store_declare(
+    uint32_t made, uint32_t *declared, uint8_t *sizes, uint8_t *marks, const uint32_t *heap, size_t words,
+    const uint32_t *list, size_t count, uint32_t *value);
+uint32_t region_store_new_region(
+    uint32_t made, uint32_t *given, uint32_t *names, uint8_t *parents, uint8_t *levels, uint32_t *shares,
+    uint16_t *newest, uint32_t *oldest, const uint32_t *heap, size_t words, uint32_t *value);
+uint32_t region_store_subregion(
+    uint32_t made, uint32_t *given, uint32_t *names, uint8_t *parents, uint8_t *levels, uint32_t *shares,
+    uint16_t *newest, uint32_t *oldest, const uint32_t *heap, size_t words, uint32_t region, uint32_t *value);
+uint32_t region_store_push(
+    uint32_t made, uint32_t *standing, uint8_t *widths, uint32_t *slots, const uint32_t *heap, size_t words,
+    uint32_t count, uint32_t *value);
+uint32_t region_store_drop(
+    uint32_t made, uint32_t *standing, uint32_t *counted, const uint8_t *widths, const uint32_t *slots,
+    uint32_t *shares, const uint8_t *owners, const uint32_t *heap, size_t words, uint32_t filler, uint32_t *value);
+uint32_t region_store_hand_back(
+    uint32_t made, uint32_t *standing, uint32_t *counted, const uint8_t *widths, uint32_t *slots, uint32_t *shares,
+    const uint8_t *owners, const uint32_t *heap, size_t words, uint32_t slot, uint32_t beneath, uint32_t filler,
+    uint32_t *value);
+uint32_t region_store_allocate(
+    uint32_t made, uint32_t standing, uint32_t declared, const uint8_t *widths, uint32_t *slots, const uint8_t *sizes,
+    const uint32_t *names, uint16_t *newest, uint32_t *oldest, uint8_t *owners, uint8_t *taken, uint32_t *heap,
+    size_t words, uint32_t slot, uint32_t region, uint32_t kind);
+uint32_t region_store_first(
+    uint32_t made, uint32_t standing, const uint8_t *widths, uint32_t *slots, const uint32_t *names,
+    const uint32_t *oldest, const uint32_t *heap, size_t words, uint32_t slot, uint32_t region);
+uint32_t region_store_copy(
+    uint32_t made, uint32_t standing, const uint8_t *widths, uint32_t *slots, const uint32_t *heap, size_t words,
+    uint32_t from, uint32_t to);
+uint32_t region_store_fetch(
+    uint32_t made, uint32_t standing, const uint8_t *widths, uint32_t *slots, const uint32_t *heap, size_t words,
+    uint32_t beneath, uint32_t slot);
+uint32_t region_store_clear(
+    uint32_t made, uint32_t standing, const uint8_t *widths, uint32_t *slots, const uint32_t *heap, size_t words,
+    uint32_t slot);
+uint32_t region_store_load(
+    uint32_t made, uint32_t standing, uint32_t declared, const uint8_t *widths, uint32_t *slots, const uint8_t *sizes,
+    const uint8_t *marks, const uint32_t *heap, size_t words, uint32_t slot, uint32_t word, uint32_t to);
+uint32_t region_store_set_pointer(
+    uint32_t made, uint32_t standing, uint32_t declared, const uint8_t *widths, const uint32_t *slots,
+    const uint8_t *sizes, const uint8_t *marks, const uint32_t *names, const uint8_t *parents, const uint8_t *levels,
+    uint32_t *shares, const uint8_t *owners, uint32_t *heap, size_t words, uint32_t slot, uint32_t word,
+    uint32_t value, uint32_t filler);
+uint32_t region_store_put(
+    uint32_t made, uint32_t standing, uint32_t declared, const uint8_t *widths, const uint32_t *slots,
+    const uint8_t *sizes, const uint8_t *marks, uint32_t *heap, size_t words, uint32_t slot, uint32_t word,
+    uint32_t number);
+uint32_t region_store_get(
+    uint32_t made, uint32_t standing, uint32_t declared, const uint8_t *widths, const uint32_t *slots,
+    const uint8_t *sizes, const uint8_t *marks, const uint32_t *heap, size_t words, uint32_t slot, uint32_t word,
+    uint32_t *value);
+uint32_t region_store_same(
+    uint32_t made, uint32_t standing, const uint8_t *widths, const uint32_t *slots, const uint32_t *heap, size_t words,
+    uint32_t slot, uint32_t other, uint32_t *value);
+uint32_t region_store_about(
+    uint32_t made, uint32_t standing, const uint8_t *widths, const uint32_t *slots, const uint32_t *names,
+    const uint8_t *owners, const uint32_t *heap, size_t words, uint32_t slot, uint32_t *values);
+uint32_t region_store_report(
+    uint32_t made, uint32_t standing, uint32_t counted, const uint8_t *widths, const uint32_t *slots,
+    const uint32_t *names, const uint8_t *parents, const uint32_t *shares, const uint8_t *owners, const uint32_t *heap,
+    size_t words, uint32_t region, uint32_t *values);
+uint32_t region_store_totals(
+    uint32_t made, uint32_t standing, uint32_t counted, const uint32_t *names, const uint8_t *owners, uint32_t *values);
+uint32_t region_store_delete(
+    uint32_t made, uint32_t standing, uint32_t *counted, uint32_t declared, const uint8_t *widths,
+    const uint32_t *slots, const uint8_t *sizes, const uint8_t *marks, uint32_t *names, const uint8_t *parents,
+    uint32_t *shares, uint8_t *owners, const uint8_t *taken, const uint32_t *heap, size_t words, uint32_t region,
+    uint32_t filler, uint32_t *value);
+uint32_t region_store_locate(
+    uint32_t made, uint32_t standing, const uint8_t *widths, const uint32_t *slots, const uint32_t *heap, size_t words,
+    uint32_t slot, uint32_t *values);
 // hosts/tables: end
 
 #ifdef __cplusplus
@@ -263,14 +341,14 @@ static inline struct rs_reply rs_reply_of(const uint32_t *words)
 // heap, words: the heap, and how many words it has, 64 for each page.
 // No values.
 // Refused by RS_HEAP_LENGTH. Then the heap has not changed, but the state has: its arrays are all zeros, whatever they held, and s holds no store. Totals gives zeros, audit 0, and all other calls are refused by RS_WRONG_HEAP.
-// A heap that is NULL counts as one of 0 words.
+// A heap that is NULL counts as one of 0 words; s->heap is then some word that is never lent.
 static inline struct rs_reply rs_make(struct rs_store *s, uint32_t *heap, size_t words)
 {
-    uint32_t spare = 0;
+    static uint32_t none;
     uint32_t reply[5] = {0, 0, 0, 0, 0};
-    s->heap = heap;
+    s->heap = heap ? heap : &none;
     s->words = heap ? words : 0;
-    region_store_make(RS_LENT(&s->state), heap ? heap : &spare, s->words, reply);
+    region_store_make(RS_LENT(&s->state), s->heap, s->words, reply);
     return rs_reply_of(reply);
 }
 
@@ -279,12 +357,10 @@ static inline struct rs_reply rs_make(struct rs_store *s, uint32_t *heap, size_t
 // Any other number is refused by RS_NO_CALL. A list that is NULL counts as an empty one.
 static inline struct rs_reply rs_call(struct rs_store *s, uint32_t number, uint32_t a, uint32_t b, uint32_t c, uint32_t d, const uint32_t *list, size_t count)
 {
-    uint32_t spare = 0;
     const uint32_t none = 0;
     uint32_t reply[5] = {0, 0, 0, 0, 0};
     region_store_call(
-        RS_LENT(&s->state), s->heap ? s->heap : &spare, s->heap ? s->words : 0, number, a, b, c, d,
-        list ? list : &none, list ? count : 0, reply);
+        RS_LENT(&s->state), s->heap, s->words, number, a, b, c, d, list ? list : &none, list ? count : 0, reply);
     return rs_reply_of(reply);
 }
 
@@ -293,10 +369,9 @@ static inline struct rs_reply rs_call(struct rs_store *s, uint32_t number, uint3
 // Refused by RS_WRONG_HEAP, RS_NO_FRAME, RS_NO_SLOT, RS_NULL_OBJECT, RS_WRONG_WORD.
 static inline struct rs_view rs_view(const struct rs_store *s, uint32_t slot)
 {
-    const uint32_t none = 0;
     uint32_t out[3] = {0, 0, 0};
     struct rs_view view;
-    region_store_view(RS_LENT(&s->state), s->heap ? s->heap : &none, s->heap ? s->words : 0, slot, out);
+    region_store_view(RS_LENT(&s->state), s->heap, s->words, slot, out);
     view.refusal = out[0];
     view.words = out[0] == RS_ACCEPTED ? s->heap + out[1] : NULL;
     view.count = out[0] == RS_ACCEPTED ? out[2] : 0;
@@ -310,7 +385,15 @@ static inline struct rs_view rs_view(const struct rs_store *s, uint32_t slot)
 // Refused by RS_WRONG_HEAP, RS_WRONG_MARKS, RS_KINDS_FULL.
 static inline struct rs_reply rs_declare(struct rs_store *s, const uint32_t *marks, size_t count)
 {
-    return rs_call(s, RS_CALL_DECLARE, 0, 0, 0, 0, marks, count);
+    struct rs_state *t = &s->state;
+    struct rs_reply reply = {0, {0, 0, 0, 0}};
+    uint32_t value;
+    const uint32_t none = 0;
+    reply.refusal = region_store_declare(
+        t->numbers[RS_MADE], &t->numbers[RS_DECLARED], t->sizes, t->marks, s->heap, s->words, marks ? marks : &none,
+        marks ? count : 0, &value);
+    reply.values[0] = value;
+    return reply;
 }
 
 // Makes a region that lies in no other, and gives its name.
@@ -318,7 +401,14 @@ static inline struct rs_reply rs_declare(struct rs_store *s, const uint32_t *mar
 // Refused by RS_WRONG_HEAP, RS_REGIONS_FULL, RS_NAMES_OUT.
 static inline struct rs_reply rs_new_region(struct rs_store *s)
 {
-    return rs_call(s, RS_CALL_NEW_REGION, 0, 0, 0, 0, NULL, 0);
+    struct rs_state *t = &s->state;
+    struct rs_reply reply = {0, {0, 0, 0, 0}};
+    uint32_t value;
+    reply.refusal = region_store_new_region(
+        t->numbers[RS_MADE], &t->numbers[RS_GIVEN], t->names, t->parents, t->levels, t->shares, t->newest, t->oldest,
+        s->heap, s->words, &value);
+    reply.values[0] = value;
+    return reply;
 }
 
 // Makes a region inside a region, and gives its name.
@@ -327,7 +417,14 @@ static inline struct rs_reply rs_new_region(struct rs_store *s)
 // Refused by RS_WRONG_HEAP, RS_NO_REGION, RS_TOO_DEEP, RS_REGIONS_FULL, RS_NAMES_OUT.
 static inline struct rs_reply rs_subregion(struct rs_store *s, uint32_t region)
 {
-    return rs_call(s, RS_CALL_SUBREGION, region, 0, 0, 0, NULL, 0);
+    struct rs_state *t = &s->state;
+    struct rs_reply reply = {0, {0, 0, 0, 0}};
+    uint32_t value;
+    reply.refusal = region_store_subregion(
+        t->numbers[RS_MADE], &t->numbers[RS_GIVEN], t->names, t->parents, t->levels, t->shares, t->newest, t->oldest,
+        s->heap, s->words, region, &value);
+    reply.values[0] = value;
+    return reply;
 }
 
 // Puts a frame of 1 to 8 null slots on the stack, and gives how many frames stand.
@@ -336,7 +433,13 @@ static inline struct rs_reply rs_subregion(struct rs_store *s, uint32_t region)
 // Refused by RS_WRONG_HEAP, RS_SLOT_COUNT, RS_FRAMES_FULL.
 static inline struct rs_reply rs_push(struct rs_store *s, uint32_t slots)
 {
-    return rs_call(s, RS_CALL_PUSH, slots, 0, 0, 0, NULL, 0);
+    struct rs_state *t = &s->state;
+    struct rs_reply reply = {0, {0, 0, 0, 0}};
+    uint32_t value;
+    reply.refusal = region_store_push(
+        t->numbers[RS_MADE], &t->numbers[RS_STANDING], t->widths, t->slots, s->heap, s->words, slots, &value);
+    reply.values[0] = value;
+    return reply;
 }
 
 // Takes the top frame off the stack, and gives how many frames stand.
@@ -345,7 +448,14 @@ static inline struct rs_reply rs_push(struct rs_store *s, uint32_t slots)
 // Refused by RS_WRONG_HEAP, RS_NO_FILLER, RS_NO_FRAME.
 static inline struct rs_reply rs_drop(struct rs_store *s, uint32_t filler)
 {
-    return rs_call(s, RS_CALL_DROP, filler, 0, 0, 0, NULL, 0);
+    struct rs_state *t = &s->state;
+    struct rs_reply reply = {0, {0, 0, 0, 0}};
+    uint32_t value;
+    reply.refusal = region_store_drop(
+        t->numbers[RS_MADE], &t->numbers[RS_STANDING], &t->numbers[RS_COUNTED], t->widths, t->slots, t->shares,
+        t->owners, s->heap, s->words, filler, &value);
+    reply.values[0] = value;
+    return reply;
 }
 
 // Takes the top frame off the stack, and puts what one of its slots held into a slot of the frame beneath it.
@@ -356,7 +466,14 @@ static inline struct rs_reply rs_drop(struct rs_store *s, uint32_t filler)
 // Refused by RS_WRONG_HEAP, RS_NO_FILLER, RS_NO_FRAME, RS_NO_SLOT.
 static inline struct rs_reply rs_hand_back(struct rs_store *s, uint32_t slot, uint32_t beneath, uint32_t filler)
 {
-    return rs_call(s, RS_CALL_HAND_BACK, slot, beneath, filler, 0, NULL, 0);
+    struct rs_state *t = &s->state;
+    struct rs_reply reply = {0, {0, 0, 0, 0}};
+    uint32_t value;
+    reply.refusal = region_store_hand_back(
+        t->numbers[RS_MADE], &t->numbers[RS_STANDING], &t->numbers[RS_COUNTED], t->widths, t->slots, t->shares,
+        t->owners, s->heap, s->words, slot, beneath, filler, &value);
+    reply.values[0] = value;
+    return reply;
 }
 
 // Makes an object of a kind in a region, its words 0 or null, and leads a slot to it.
@@ -367,7 +484,12 @@ static inline struct rs_reply rs_hand_back(struct rs_store *s, uint32_t slot, ui
 // Refused by RS_WRONG_HEAP, RS_NO_FRAME, RS_NO_SLOT, RS_NO_REGION, RS_NO_KIND, RS_NO_PAGE.
 static inline struct rs_reply rs_allocate(struct rs_store *s, uint32_t slot, uint32_t region, uint32_t kind)
 {
-    return rs_call(s, RS_CALL_ALLOCATE, slot, region, kind, 0, NULL, 0);
+    struct rs_state *t = &s->state;
+    struct rs_reply reply = {0, {0, 0, 0, 0}};
+    reply.refusal = region_store_allocate(
+        t->numbers[RS_MADE], t->numbers[RS_STANDING], t->numbers[RS_DECLARED], t->widths, t->slots, t->sizes, t->names,
+        t->newest, t->oldest, t->owners, t->taken, s->heap, s->words, slot, region, kind);
+    return reply;
 }
 
 // Leads a slot to the first object of a region, or makes it null where there is none.
@@ -377,7 +499,12 @@ static inline struct rs_reply rs_allocate(struct rs_store *s, uint32_t slot, uin
 // Refused by RS_WRONG_HEAP, RS_NO_FRAME, RS_NO_SLOT, RS_NO_REGION.
 static inline struct rs_reply rs_first(struct rs_store *s, uint32_t slot, uint32_t region)
 {
-    return rs_call(s, RS_CALL_FIRST, slot, region, 0, 0, NULL, 0);
+    struct rs_state *t = &s->state;
+    struct rs_reply reply = {0, {0, 0, 0, 0}};
+    reply.refusal = region_store_first(
+        t->numbers[RS_MADE], t->numbers[RS_STANDING], t->widths, t->slots, t->names, t->oldest, s->heap, s->words,
+        slot, region);
+    return reply;
 }
 
 // Leads a slot to where another one leads.
@@ -387,7 +514,11 @@ static inline struct rs_reply rs_first(struct rs_store *s, uint32_t slot, uint32
 // Refused by RS_WRONG_HEAP, RS_NO_FRAME, RS_NO_SLOT.
 static inline struct rs_reply rs_copy(struct rs_store *s, uint32_t from, uint32_t to)
 {
-    return rs_call(s, RS_CALL_COPY, from, to, 0, 0, NULL, 0);
+    struct rs_state *t = &s->state;
+    struct rs_reply reply = {0, {0, 0, 0, 0}};
+    reply.refusal = region_store_copy(
+        t->numbers[RS_MADE], t->numbers[RS_STANDING], t->widths, t->slots, s->heap, s->words, from, to);
+    return reply;
 }
 
 // Leads a slot to where a slot of the frame beneath leads.
@@ -397,7 +528,11 @@ static inline struct rs_reply rs_copy(struct rs_store *s, uint32_t from, uint32_
 // Refused by RS_WRONG_HEAP, RS_NO_FRAME, RS_NO_SLOT.
 static inline struct rs_reply rs_fetch(struct rs_store *s, uint32_t beneath, uint32_t slot)
 {
-    return rs_call(s, RS_CALL_FETCH, beneath, slot, 0, 0, NULL, 0);
+    struct rs_state *t = &s->state;
+    struct rs_reply reply = {0, {0, 0, 0, 0}};
+    reply.refusal = region_store_fetch(
+        t->numbers[RS_MADE], t->numbers[RS_STANDING], t->widths, t->slots, s->heap, s->words, beneath, slot);
+    return reply;
 }
 
 // Makes a slot null.
@@ -406,7 +541,11 @@ static inline struct rs_reply rs_fetch(struct rs_store *s, uint32_t beneath, uin
 // Refused by RS_WRONG_HEAP, RS_NO_FRAME, RS_NO_SLOT.
 static inline struct rs_reply rs_clear(struct rs_store *s, uint32_t slot)
 {
-    return rs_call(s, RS_CALL_CLEAR, slot, 0, 0, 0, NULL, 0);
+    struct rs_state *t = &s->state;
+    struct rs_reply reply = {0, {0, 0, 0, 0}};
+    reply.refusal = region_store_clear(
+        t->numbers[RS_MADE], t->numbers[RS_STANDING], t->widths, t->slots, s->heap, s->words, slot);
+    return reply;
 }
 
 // Leads a slot to where a pointer word of an object leads.
@@ -417,7 +556,12 @@ static inline struct rs_reply rs_clear(struct rs_store *s, uint32_t slot)
 // Refused by RS_WRONG_HEAP, RS_NO_FRAME, RS_NO_SLOT, RS_NULL_OBJECT, RS_NO_WORD, RS_WRONG_WORD.
 static inline struct rs_reply rs_load(struct rs_store *s, uint32_t slot, uint32_t word, uint32_t to)
 {
-    return rs_call(s, RS_CALL_LOAD, slot, word, to, 0, NULL, 0);
+    struct rs_state *t = &s->state;
+    struct rs_reply reply = {0, {0, 0, 0, 0}};
+    reply.refusal = region_store_load(
+        t->numbers[RS_MADE], t->numbers[RS_STANDING], t->numbers[RS_DECLARED], t->widths, t->slots, t->sizes, t->marks,
+        s->heap, s->words, slot, word, to);
+    return reply;
 }
 
 // Leads a pointer word of an object to where a slot leads, if the word's mark allows it.
@@ -429,7 +573,12 @@ static inline struct rs_reply rs_load(struct rs_store *s, uint32_t slot, uint32_
 // Refused by RS_WRONG_HEAP, RS_NO_FILLER, RS_NO_FRAME, RS_NO_SLOT, RS_NULL_OBJECT, RS_NO_WORD, RS_WRONG_WORD, RS_BREAKS_MARK.
 static inline struct rs_reply rs_set_pointer(struct rs_store *s, uint32_t slot, uint32_t word, uint32_t value, uint32_t filler)
 {
-    return rs_call(s, RS_CALL_SET_POINTER, slot, word, value, filler, NULL, 0);
+    struct rs_state *t = &s->state;
+    struct rs_reply reply = {0, {0, 0, 0, 0}};
+    reply.refusal = region_store_set_pointer(
+        t->numbers[RS_MADE], t->numbers[RS_STANDING], t->numbers[RS_DECLARED], t->widths, t->slots, t->sizes, t->marks,
+        t->names, t->parents, t->levels, t->shares, t->owners, s->heap, s->words, slot, word, value, filler);
+    return reply;
 }
 
 // Writes a data word of an object.
@@ -440,7 +589,12 @@ static inline struct rs_reply rs_set_pointer(struct rs_store *s, uint32_t slot, 
 // Refused by RS_WRONG_HEAP, RS_NO_FRAME, RS_NO_SLOT, RS_NULL_OBJECT, RS_NO_WORD, RS_WRONG_WORD.
 static inline struct rs_reply rs_put(struct rs_store *s, uint32_t slot, uint32_t word, uint32_t number)
 {
-    return rs_call(s, RS_CALL_PUT, slot, word, number, 0, NULL, 0);
+    struct rs_state *t = &s->state;
+    struct rs_reply reply = {0, {0, 0, 0, 0}};
+    reply.refusal = region_store_put(
+        t->numbers[RS_MADE], t->numbers[RS_STANDING], t->numbers[RS_DECLARED], t->widths, t->slots, t->sizes, t->marks,
+        s->heap, s->words, slot, word, number);
+    return reply;
 }
 
 // Reads a data word of an object.
@@ -450,7 +604,14 @@ static inline struct rs_reply rs_put(struct rs_store *s, uint32_t slot, uint32_t
 // Refused by RS_WRONG_HEAP, RS_NO_FRAME, RS_NO_SLOT, RS_NULL_OBJECT, RS_NO_WORD, RS_WRONG_WORD.
 static inline struct rs_reply rs_get(struct rs_store *s, uint32_t slot, uint32_t word)
 {
-    return rs_call(s, RS_CALL_GET, slot, word, 0, 0, NULL, 0);
+    struct rs_state *t = &s->state;
+    struct rs_reply reply = {0, {0, 0, 0, 0}};
+    uint32_t value;
+    reply.refusal = region_store_get(
+        t->numbers[RS_MADE], t->numbers[RS_STANDING], t->numbers[RS_DECLARED], t->widths, t->slots, t->sizes, t->marks,
+        s->heap, s->words, slot, word, &value);
+    reply.values[0] = value;
+    return reply;
 }
 
 // Tells whether two slots lead to one object, or are both null.
@@ -460,7 +621,13 @@ static inline struct rs_reply rs_get(struct rs_store *s, uint32_t slot, uint32_t
 // Refused by RS_WRONG_HEAP, RS_NO_FRAME, RS_NO_SLOT.
 static inline struct rs_reply rs_same(struct rs_store *s, uint32_t slot, uint32_t other)
 {
-    return rs_call(s, RS_CALL_SAME, slot, other, 0, 0, NULL, 0);
+    struct rs_state *t = &s->state;
+    struct rs_reply reply = {0, {0, 0, 0, 0}};
+    uint32_t value;
+    reply.refusal = region_store_same(
+        t->numbers[RS_MADE], t->numbers[RS_STANDING], t->widths, t->slots, s->heap, s->words, slot, other, &value);
+    reply.values[0] = value;
+    return reply;
 }
 
 // Gives the region and the kind of the object that a slot leads to, 0 and 0 for null.
@@ -470,7 +637,12 @@ static inline struct rs_reply rs_same(struct rs_store *s, uint32_t slot, uint32_
 // Refused by RS_WRONG_HEAP, RS_NO_FRAME, RS_NO_SLOT.
 static inline struct rs_reply rs_about(struct rs_store *s, uint32_t slot)
 {
-    return rs_call(s, RS_CALL_ABOUT, slot, 0, 0, 0, NULL, 0);
+    struct rs_state *t = &s->state;
+    struct rs_reply reply = {0, {0, 0, 0, 0}};
+    reply.refusal = region_store_about(
+        t->numbers[RS_MADE], t->numbers[RS_STANDING], t->widths, t->slots, t->names, t->owners, s->heap, s->words,
+        slot, reply.values);
+    return reply;
 }
 
 // Gives a region's stored count, its outside pointers, its pages, and the live subregions directly below it.
@@ -482,7 +654,12 @@ static inline struct rs_reply rs_about(struct rs_store *s, uint32_t slot)
 // Refused by RS_WRONG_HEAP, RS_NO_REGION.
 static inline struct rs_reply rs_report(struct rs_store *s, uint32_t region)
 {
-    return rs_call(s, RS_CALL_REPORT, region, 0, 0, 0, NULL, 0);
+    struct rs_state *t = &s->state;
+    struct rs_reply reply;
+    reply.refusal = region_store_report(
+        t->numbers[RS_MADE], t->numbers[RS_STANDING], t->numbers[RS_COUNTED], t->widths, t->slots, t->names,
+        t->parents, t->shares, t->owners, s->heap, s->words, region, reply.values);
+    return reply;
 }
 
 // Gives how many pages are free, regions live, frames stand and frames are counted.
@@ -493,7 +670,11 @@ static inline struct rs_reply rs_report(struct rs_store *s, uint32_t region)
 // Never refused.
 static inline struct rs_reply rs_totals(struct rs_store *s)
 {
-    return rs_call(s, RS_CALL_TOTALS, 0, 0, 0, 0, NULL, 0);
+    struct rs_state *t = &s->state;
+    struct rs_reply reply;
+    reply.refusal = region_store_totals(
+        t->numbers[RS_MADE], t->numbers[RS_STANDING], t->numbers[RS_COUNTED], t->names, t->owners, reply.values);
+    return reply;
 }
 
 // Tells whether the memory is a sound store, by counting everything anew.
@@ -501,7 +682,9 @@ static inline struct rs_reply rs_totals(struct rs_store *s)
 // Never refused.
 static inline struct rs_reply rs_audit(struct rs_store *s)
 {
-    return rs_call(s, RS_CALL_AUDIT, 0, 0, 0, 0, NULL, 0);
+    uint32_t reply[5] = {0, 0, 0, 0, 0};
+    region_store_audit(RS_LENT(&s->state), s->heap, s->words, reply);
+    return rs_reply_of(reply);
 }
 
 // Deletes a region, and gives how many pages that frees.
@@ -511,7 +694,15 @@ static inline struct rs_reply rs_audit(struct rs_store *s)
 // Refused by RS_WRONG_HEAP, RS_NO_FILLER, RS_NO_REGION, RS_PERMANENT, RS_SUBREGION_LIVES, RS_OUTSIDE_POINTER.
 static inline struct rs_reply rs_delete(struct rs_store *s, uint32_t region, uint32_t filler)
 {
-    return rs_call(s, RS_CALL_DELETE, region, filler, 0, 0, NULL, 0);
+    struct rs_state *t = &s->state;
+    struct rs_reply reply = {0, {0, 0, 0, 0}};
+    uint32_t value;
+    reply.refusal = region_store_delete(
+        t->numbers[RS_MADE], t->numbers[RS_STANDING], &t->numbers[RS_COUNTED], t->numbers[RS_DECLARED], t->widths,
+        t->slots, t->sizes, t->marks, t->names, t->parents, t->shares, t->owners, t->taken, s->heap, s->words, region,
+        filler, &value);
+    reply.values[0] = value;
+    return reply;
 }
 
 // Deletes 1 to 16 regions that may lead into each other, all or none, and gives how many pages that frees. Refusals 2 and 3 are tested for one name after the other.
@@ -531,7 +722,11 @@ static inline struct rs_reply rs_delete_all(struct rs_store *s, const uint32_t *
 // Refused by RS_WRONG_HEAP, RS_NO_FRAME, RS_NO_SLOT.
 static inline struct rs_reply rs_locate(struct rs_store *s, uint32_t slot)
 {
-    return rs_call(s, RS_CALL_LOCATE, slot, 0, 0, 0, NULL, 0);
+    struct rs_state *t = &s->state;
+    struct rs_reply reply = {0, {0, 0, 0, 0}};
+    reply.refusal = region_store_locate(
+        t->numbers[RS_MADE], t->numbers[RS_STANDING], t->widths, t->slots, s->heap, s->words, slot, reply.values);
+    return reply;
 }
 // hosts/tables: end
 

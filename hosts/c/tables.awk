@@ -51,11 +51,76 @@ function lent(constant,    i, s) {
     return s
 }
 
-function library() {
+function library(    i) {
     printf "void region_store_make(\n    %s,\n    uint32_t *heap, size_t words, uint32_t *reply);\n", lent("")
     printf "void region_store_call(\n    %s,\n    uint32_t *heap, size_t words, uint32_t number, uint32_t a, uint32_t b, uint32_t c, uint32_t d,\n    const uint32_t *list, size_t count, uint32_t *reply);\n", lent("")
     printf "void region_store_view(\n    %s,\n    const uint32_t *heap, size_t words, uint32_t slot, uint32_t *out);\n", lent("const ")
+    printf "void region_store_audit(\n    %s,\n    const uint32_t *heap, size_t words, uint32_t *reply);\n", lent("const ")
     print "size_t region_store_layout(uint32_t *out, size_t room);"
+    for (i = 1; i <= calls; i++) if (call_name[i] in direct) print "uint32_t region_store_" call_name[i] "(" filled(direct_takes(i), "    ") ");"
+}
+
+# The words of a list, ' / ' between them, with commas, as many on a line as go there; each line begins with the margin.
+function filled(list, margin,    parts, n, j, line, s) {
+    n = split(list, parts, " / ")
+    s = ""
+    line = margin parts[1]
+    for (j = 2; j <= n; j++) {
+        if (length(line ", " parts[j]) > 118) { s = s "\n" line ","; line = margin parts[j] }
+        else line = line ", " parts[j]
+    }
+    return s "\n" line
+}
+
+# what the direct function of call i takes, as C declares it
+function direct_takes(i,    parts, n, j, name, constant, s) {
+    n = split(direct[call_name[i]], parts, " ")
+    s = ""
+    for (j = 1; j <= n; j++) {
+        name = bare(parts[j])
+        constant = is_written(parts[j]) ? "" : "const "
+        if (name in number_place) s = s " / uint32_t " (is_written(parts[j]) ? "*" : "") name
+        else if (name == "heap") s = s " / " constant "uint32_t *heap / size_t words"
+        else s = s " / " constant type_of(array_width[array_place[name]]) " *" name
+    }
+    n = split(call_arguments[i], parts, " ")
+    for (j = 1; j <= n; j++) s = s (is_list(parts[j]) ? " / const uint32_t *list / size_t count" : " / uint32_t " parameter(parts[j]))
+    n = split(call_values[i], parts, " ")
+    if (n) s = s " / uint32_t *" (n == 1 ? "value" : "values")
+    return substr(s, 4)
+}
+
+# what it is given
+function direct_given(i,    parts, n, j, name, s) {
+    n = split(direct[call_name[i]], parts, " ")
+    s = ""
+    for (j = 1; j <= n; j++) {
+        name = bare(parts[j])
+        if (name in number_place) s = s " / " (is_written(parts[j]) ? "&" : "") "t->numbers[RS_" upper(name) "]"
+        else if (name == "heap") s = s " / s->heap / s->words"
+        else s = s " / t->" name
+    }
+    n = split(call_arguments[i], parts, " ")
+    for (j = 1; j <= n; j++) {
+        name = bare(parts[j])
+        s = s " / " (is_list(parts[j]) ? name " ? " name " : &none / " name " ? count : 0" : name)
+    }
+    n = split(call_values[i], parts, " ")
+    if (n) s = s " / " (n == 1 ? "&value" : "reply.values")
+    return substr(s, 4)
+}
+
+# the body of a call that is made directly; what it does not write of the values is 0
+function direct_body(i,    parts, n) {
+    n = split(call_values[i], parts, " ")
+    print "    struct rs_state *t = &s->state;"
+    if (n == 4) print "    struct rs_reply reply;"
+    else print "    struct rs_reply reply = {0, {0, 0, 0, 0}};"
+    if (n == 1) print "    uint32_t value;"
+    if (call_arguments[i] ~ /[.][.]/) print "    const uint32_t none = 0;"
+    print "    reply.refusal = region_store_" call_name[i] "(" filled(direct_given(i), "        ") ");"
+    if (n == 1) print "    reply.values[0] = value;"
+    print "    return reply;"
 }
 
 function call_numbers(    i) {
@@ -138,6 +203,13 @@ function passed(i,    parts, n, j, given, list, s) {
     return s list
 }
 
+# audit has a function that only reads, for the memory whole
+function audit_body() {
+    print "    uint32_t reply[5] = {0, 0, 0, 0, 0};"
+    print "    region_store_audit(RS_LENT(&s->state), s->heap, s->words, reply);"
+    print "    return rs_reply_of(reply);"
+}
+
 # make and view are written by hand
 function by_hand(i) { return call_name[i] == "make" || call_name[i] == "view" }
 
@@ -148,7 +220,10 @@ function named_calls(    i, begun) {
         if (begun++) printf "\n"
         printf "// %s\n%s// %s\n// %s\n", call_what[i], takes(i), gives(i), refused_by(i)
         printf "static inline struct rs_reply rs_%s(%s)\n{\n", call_name[i], parameters(i)
-        printf "    return rs_call(s, RS_CALL_%s, %s);\n}\n", upper(call_name[i]), passed(i)
+        if (call_name[i] in direct) direct_body(i)
+        else if (call_name[i] == "audit") audit_body()
+        else printf "    return rs_call(s, RS_CALL_%s, %s);\n", upper(call_name[i]), passed(i)
+        print "}"
     }
 }
 

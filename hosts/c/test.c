@@ -767,7 +767,7 @@ static struct {
     struct rs_state state;
     uint32_t between[GUARD];
     uint32_t heap[LENT + GUARD];
-} lent, kept;
+} lent, kept, numbered;
 
 // Any bytes; or few and small ones; or a store with a few bytes changed.
 static void fill(uint32_t how)
@@ -800,21 +800,29 @@ static uint32_t argument(int small)
     return any() % (how == 2 ? 300 : 4);
 }
 
+// The call by its name on what is lent, and by its number on a copy of it: they answer the same, and leave the same memory.
 static void junk_call(struct rs_store *t, uint32_t number)
 {
+    static struct rs_store u;
     uint32_t n[4], list[40];
     int small = any() % 4 != 0;
     size_t i, count = any() % 8 ? any() % 4 : any() % 40;
-    struct rs_reply r;
+    size_t words = any() % 4 ? lent.state.numbers[RS_MADE] % 6 * RS_PAGE_WORDS : any() % (LENT + 1);
+    struct rs_reply r, by_number;
     struct rs_view view;
-    t->heap = lent.heap;
-    t->words = any() % 4 ? lent.state.numbers[RS_MADE] % 6 * RS_PAGE_WORDS : any() % (LENT + 1);
     for (i = 0; i < 4; i++) n[i] = argument(small);
     for (i = 0; i < 40; i++) list[i] = argument(small);
     memcpy(&kept, &lent, sizeof lent);
-    t->state = lent.state;
-    if (any() % 2) r = by_name(t, number, n, list, count);
-    else r = rs_call(t, number, n[0], n[1], n[2], n[3], list, count);
+    memcpy(&numbered, &lent, sizeof lent);
+    t->state = u.state = lent.state;
+    t->words = u.words = words;
+    t->heap = lent.heap;
+    u.heap = numbered.heap;
+    r = by_name(t, number, n, list, count);
+    by_number = rs_call(&u, number, n[0], n[1], n[2], n[3], list, count);
+    CHECK(r.refusal == by_number.refusal && (number == RS_CALL_VIEW || memcmp(r.values, by_number.values, sizeof r.values) == 0));
+    CHECK(memcmp(&t->state, &u.state, sizeof u.state) == 0 && memcmp(lent.heap, numbered.heap, sizeof lent.heap) == 0);
+    CHECK(t->heap == lent.heap && t->words == words);
     lent.state = t->state;
     if (r.refusal != RS_ACCEPTED || by_name_shape(number)->asks) CHECK(memcmp(&kept, &lent, sizeof lent) == 0);
     CHECK(memcmp(kept.heap + t->words, lent.heap + t->words, sizeof lent.heap - 4 * t->words) == 0);
@@ -837,6 +845,22 @@ static void guarded_call(uint32_t number)
     CHECK(memcmp(kept.heap + words, lent.heap + words, sizeof lent.heap - 4 * words) == 0);
     if (reply[0] != RS_ACCEPTED) CHECK(memcmp(&kept, &lent, sizeof lent) == 0);
     CHECK(reply[5] == 0xC0FFEE && reply[6] == 0xC0FFEE);
+}
+
+// The functions of direct calls write every value, whatever was there, also where they refuse, and no word more.
+static void test_values(void)
+{
+    struct rs_state *t = &s.state;
+    uint32_t v[5] = {9, 9, 9, 9, 9};
+    make(1);
+    CHECK(region_store_push(t->numbers[RS_MADE], &t->numbers[RS_STANDING], t->widths, t->slots, heap, RS_PAGE_WORDS, 9, v) == RS_SLOT_COUNT);
+    CHECK(v[0] == 0 && v[1] == 9);
+    CHECK(region_store_about(t->numbers[RS_MADE], t->numbers[RS_STANDING], t->widths, t->slots, t->names, t->owners, heap, RS_PAGE_WORDS, 0, v + 1) == RS_NO_FRAME);
+    CHECK(v[1] == 0 && v[2] == 0 && v[3] == 9);
+    v[0] = v[1] = v[2] = 9;
+    CHECK(region_store_report(
+        t->numbers[RS_MADE], t->numbers[RS_STANDING], t->numbers[RS_COUNTED], t->widths, t->slots, t->names, t->parents, t->shares, t->owners, heap, RS_PAGE_WORDS, 7, v) == RS_NO_REGION);
+    CHECK(v[0] == 0 && v[1] == 0 && v[2] == 0 && v[3] == 0 && v[4] == 9);
 }
 
 // A store with two regions in one another, objects in all slots but one, and words that lead to and fro.
@@ -905,6 +929,7 @@ int main(int count, char **words)
     test_damage();
     test_mended();
     test_reasons();
+    test_values();
     test_junk();
     unlink(path);
     printf("%u checks, %u failed\n", checks, failures);

@@ -27,17 +27,18 @@ function constants(    i, n) {
     print "pub(crate) const LAYOUT: [u32; " 3 + 2 * arrays "] = ["
     n = version ", 4, " numbers
     for (i = 1; i <= arrays; i++) n = n ", " array_width[i] ", " array_length[i]
-    filled(n ",")
+    gsub(/, /, " / ", n)
+    filled(n, "    ")
     print "];"
 }
 
-# The numbers of a list, as many on a line as go there.
-function filled(list,    parts, n, i, line) {
-    n = split(list, parts, " ")
-    line = "   "
-    for (i = 1; i <= n; i++) {
-        if (length(line " " parts[i]) > 100) { print line; line = "   " }
-        line = line " " parts[i]
+# What stands in a list, ' / ' between, as much on a line as goes there, after a margin.
+function filled(list, margin,    parts, n, i, line) {
+    n = split(list, parts, " / ")
+    line = margin parts[1] ","
+    for (i = 2; i <= n; i++) {
+        if (length(line " " parts[i] ",") > 100) { print line; line = margin parts[i] "," }
+        else line = line " " parts[i] ","
     }
     print line
 }
@@ -107,16 +108,21 @@ function library(    i) {
     print "        slot: u32,"
     print "        out: *mut [u32; 3],"
     print "    );"
+    print "    pub(crate) fn region_store_audit("
+    lent_arrays("const")
+    print "        reply: *mut [u32; 5],"
+    print "    );"
     print "    pub(crate) fn region_store_layout(out: *mut u32, room: usize) -> usize;"
+    for (i = 1; i <= calls; i++) if (call_name[i] in direct) declared_direct(i)
     print "}"
     print ""
-    print "/// Calls a function of the library with the arrays of a state (a `*mut State`), then the rest of its arguments."
+    print "/// Calls a function of the library with the arrays of a state, which it writes (`mut`) or only reads (`const`), then the rest of its arguments."
     print "macro_rules! lend {"
-    print "    ($function:ident, $state:expr, $($rest:expr),+ $(,)?) => {{"
-    print "        let state: *mut $crate::tables::State = $state;"
+    print "    ($how:tt $function:ident, $state:expr, $($rest:expr),+ $(,)?) => {{"
+    print "        let state: *$how $crate::tables::State = $state;"
     print "        $crate::tables::$function("
-    print "            &raw mut (*state).numbers,"
-    for (i = 1; i <= arrays; i++) print "            &raw mut (*state)." array_name[i] ","
+    print "            &raw $how (*state).numbers,"
+    for (i = 1; i <= arrays; i++) print "            &raw $how (*state)." array_name[i] ","
     print "            $($rest),+"
     print "        )"
     print "    }};"
@@ -124,13 +130,31 @@ function library(    i) {
     print "pub(crate) use lend;"
 }
 
-function asking(    i) {
-    print "/// The calls that only ask, by their numbers: they leave the state and the heap as they are. View has a function of its own."
-    print "#[derive(Clone, Copy)]"
-    print "#[repr(u32)]"
-    print "pub(crate) enum Ask {"
-    for (i = 1; i <= calls; i++) if (call_asks[i] && call_name[i] != "view") print "    " camel(call_name[i]) " = " call_number[i] ","
-    print "}"
+# What a direct call is lent: the type of a number or array of the state.
+function lent_type(word,    name, lent) {
+    name = bare(word)
+    lent = is_written(word) ? "&mut " : "&"
+    if (name in number_place) return (is_written(word) ? lent : "") "u32"
+    return lent "[" word_of(array_width[array_place[name]]) "; " array_length[array_place[name]] "]"
+}
+
+function declared_direct(i,    a, n, k) {
+    print "    pub(crate) fn region_store_" call_name[i] "("
+    n = words(direct[call_name[i]], a)
+    for (k = 1; k <= n; k++) {
+        if (bare(a[k]) != "heap") { print "        " bare(a[k]) ": " lent_type(a[k]) ","; continue }
+        print "        heap: *" (is_written(a[k]) ? "mut" : "const") " u32,"
+        print "        words: usize,"
+    }
+    n = words(call_arguments[i], a)
+    for (k = 1; k <= n; k++) {
+        if (!is_list(a[k])) { print "        " parameter(a[k]) ": u32,"; continue }
+        print "        list: *const u32,"
+        print "        count: usize,"
+    }
+    n = words(call_values[i], a)
+    if (n) print "        " (n == 1 ? "value: &mut u32," : "values: &mut [u32; " n "],")
+    print "    ) -> u32;"
 }
 
 function refused(    i) {
@@ -415,29 +439,102 @@ function reply(i,    a, n, k, numbers_in, list, count) {
     }
     if (!count) numbers_in = "0; 4"
     else for (; count < 4; count++) numbers_in = joined(numbers_in, "0")
-    if (call_asks[i]) return "self.ask(Ask::" camel(call_name[i]) ", [" numbers_in "], " list ")"
+    if (call_asks[i]) bad("by its number a call is not known to leave the memory alone: " call_name[i] " wants a direct line", call_line[i])
     return "self.act(" call_number[i] ", [" numbers_in "], " list ")"
 }
 
-function method(i,    t, v, n, k, open, close_) {
-    t = given(i)
-    told(i)
-    if (call_refusals[i] == "") print "    #[must_use]"
-    head(i, call_refusals[i] == "" ? t : "Result<" t ", Refusal>")
-    if (call_name[i] == "view") { print "        self.part(slot)"; print "    }"; return }
-    if (call_refusals[i] == "") { print "        let v = " reply(i) ";"; open = ""; close_ = "" }
-    else {
-        print "        " (t == "()" ? "" : "let v = ") "accepted(" reply(i) ")?;"
-        open = "Ok("; close_ = ")"
+# The numbers of the state, by name, as a pattern: those that a direct call is lent.
+function number_pattern(i,    a, n, k, lent, s) {
+    n = words(direct[call_name[i]], a)
+    for (k = 1; k <= n; k++) lent[bare(a[k])] = 1
+    s = ""
+    for (k = 1; k <= numbers; k++) s = joined(s, (number_name[k] in lent) ? number_name[k] : "_")
+    return "[" s "]"
+}
+
+# What a direct call is given, with ' / ' between.
+function direct_given(i,    a, n, k, name, s) {
+    n = words(direct[call_name[i]], a)
+    s = ""
+    for (k = 1; k <= n; k++) {
+        name = bare(a[k])
+        if (name in number_place) s = s " / " (call_asks[i] || is_written(a[k]) ? "" : "*") name
+        else if (name == "heap") s = s " / heap / words"
+        else s = s " / &" (is_written(a[k]) ? "mut " : "") "s." name
     }
+    n = words(call_arguments[i], a)
+    for (k = 1; k <= n; k++) s = s " / " (is_list(a[k]) ? bare(a[k]) ".as_ptr() / " bare(a[k]) ".len()" : a[k])
+    n = words(call_values[i], a)
+    if (n) s = s " / &mut v"
+    return substr(s, 4)
+}
+
+# A direct call, and the refusal that it gives.
+function direct_call(i,    a, n) {
+    print "        let (s, " (direct[call_name[i]] ~ /heap/ ? "heap, words" : "_, _") ") = self." (call_asks[i] ? "shown" : "lent") "();"
+    print "        let " number_pattern(i) " = " (call_asks[i] ? "" : "&mut ") "s.numbers;"
+    n = words(call_values[i], a)
+    if (n) print "        let mut v = " (n == 1 ? "0" : "[0; " n "]") ";"
+    print "        // SAFETY: see `Store::" (call_asks[i] ? "shown" : "lent") "`."
+    given_to("region_store_" call_name[i], direct_given(i))
+}
+
+# The call of a function, as rustfmt lays it out: on one line if its arguments take at most 60 columns, and with the block around it if that fits; on filled lines if each argument takes at most 10; else on a line for each.
+function given_to(name, list,    a, n, k, long, line) {
+    n = split(list, a, " / ")
+    for (k = 1; k <= n; k++) if (length(a[k]) > 10) long = 1
+    line = list
+    gsub(/ \/ /, ", ", line)
+    line = length(line) <= 60 ? name "(" line ")" : ""
+    if (line != "" && length(line) + 24 <= 100) {
+        print "        let refusal ="
+        print "            unsafe { " line " };"
+        return
+    }
+    print "        let refusal = unsafe {"
+    if (line != "") print "            " line
+    else {
+        print "            " name "("
+        if (!long) filled(list, "                ")
+        for (k = 1; k <= n && long; k++) print "                " a[k] ","
+        print "            )"
+    }
+    print "        };"
+}
+
+# What a method gives: its values are those of v from the place `first` on, or v itself.
+function result(i, first,    t, v, n, k, open, close_, only_one) {
+    t = given(i)
+    if (call_refusals[i] != "") { open = "Ok("; close_ = ")" }
+    else open = close_ = ""
+    only_one = first ? "v[" first "]" : "v"
     if (t == "()") print "        Ok(())"
-    else if (t == "u32") print "        " open "v[1]" close_
-    else if (t == "bool") print "        " open "v[1] == 1" close_
+    else if (t == "u32") print "        " open only_one close_
+    else if (t == "bool") print "        " open only_one " == 1" close_
     else {
         n = words(call_values[i], v)
         print "        " open t " {"
-        for (k = 1; k <= n; k++) print "            " bare(v[k]) ": v[" k "],"
+        for (k = 1; k <= n; k++) print "            " bare(v[k]) ": v[" k - 1 + first "],"
         print "        }" close_
+    }
+}
+
+function method(i,    t) {
+    t = given(i)
+    told(i)
+    if (call_refusals[i] == "") print "    #[must_use]"
+    if (call_name[i] in direct) print "    #[inline]"
+    head(i, call_refusals[i] == "" ? t : "Result<" t ", Refusal>")
+    if (call_name[i] == "view") print "        self.part(slot)"
+    else if (call_name[i] == "audit") print "        self.audited()[1] == 1"
+    else if (call_name[i] in direct) {
+        direct_call(i)
+        print "        passed(refusal)" (t == "()" ? "" : (call_refusals[i] == "" ? ".expect(\"it is never refused\");" : "?;"))
+        if (t != "()") result(i, 0)
+    } else {
+        if (call_refusals[i] == "") print "        let v = " reply(i) ";"
+        else print "        " (t == "()" ? "" : "let v = ") "accepted(" reply(i) ")?;"
+        result(i, 1)
     }
     print "    }"
 }
@@ -506,8 +603,6 @@ END {
         state()
         print ""
         library()
-        print ""
-        asking()
         print ""
         refused()
         print ""

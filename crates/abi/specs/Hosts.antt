@@ -10,7 +10,7 @@ use Rattle.state.specs.declared.State.{State}
 use Rattle.outcomes.specs.Outcome.{store}
 use Rattle.outcomes.specs.Runs.{Event, Run, calls, answers}
 use Rattle.outcomes.specs.Shape.{Sized}
-use Rattle.store.specs.Dispatch.{isCall, decoded}
+use Rattle.dispatch.specs.Dispatch.{isCall, decoded}
 use Rattle.abi.specs.Memory.{HoldsState, Called}
 
 -- a call's number, its four numbers, and its list

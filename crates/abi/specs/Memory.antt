@@ -11,7 +11,7 @@ use Rattle.state.specs.declared.State.{State}
 use Rattle.state.specs.declared.Reply.{Reply}
 use Rattle.outcomes.specs.Store.{slot}
 use Rattle.outcomes.specs.Outcome.{Outcome, MakeOutcome, answerOf, store}
-use Rattle.store.specs.Dispatch.{Dispatched}
+use Rattle.dispatch.specs.Dispatch.{Dispatched}
 
 -- the arrays of a state in the order of its parts, and before them its numbers, as one array
 abbrev pub arraysOf : State → List (List ℕ)

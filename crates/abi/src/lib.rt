@@ -1,120 +1,10 @@
 // The store for hosts in other languages: functions that C can call, on memory that the host lends. The state is lent as thirteen arrays, its numbers first, then its arrays in the order of its parts.
 // Pointers are aligned and not null, also where a length is 0, lengths are true, and no two buffers overlap: that the host answers for. Whatever the memory holds, the calls are safe, end and have their outcomes; what the outcomes say of memory that the audit rejects is more than document 01 fixes.
-use frames::Frames;
-use kinds::Kinds;
-use pages::Pages;
-use regions::Regions;
-use state::State;
 ghost use mathlib.Core.Path.{_≡_};
 ghost use mathlib.Core.List.{[], _∷_};
-ghost use Prim.Native.Nat.{_≤_};
-ghost use lib.Dec.{eqb};
 ghost use lib.ListN.{length};
 ghost use lib.Seq.{sets};
-ghost use Rattle.lists.specs.Lists.{pick};
-ghost use Rattle.abi.specs.Memory.{HoldsState, Made, Called, Viewed, layout};
-
-// The state that the memory holds.
-fn held(
-    numbers: [u32; 5],
-    widths: &[u8; 32],
-    slots: &[u32; 256],
-    sizes: &[u8; 16],
-    marks: &[u8; 256],
-    names: &[u32; 64],
-    parents: &[u8; 64],
-    levels: &[u8; 64],
-    shares: &[u32; 256],
-    newest: &[u16; 64],
-    oldest: &[u32; 64],
-    owners: &[u8; 256],
-    taken: &[u8; 256],
-) -> State
-    ensures { λ s. ⌜ HoldsState s (numbers ∷ now (widths .entry) ∷ now (slots .entry) ∷ now (sizes .entry) ∷ now (marks .entry) ∷ now (names .entry) ∷ now (parents .entry) ∷ now (levels .entry) ∷ now (shares .entry) ∷ now (newest .entry) ∷ now (oldest .entry) ∷ now (owners .entry) ∷ now (taken .entry) ∷ []) ⌝ }
-{
-    let s = State {
-        frames: Frames {
-            standing: numbers[0],
-            counted: numbers[1],
-            widths: *widths,
-            slots: *slots,
-        },
-        kinds: Kinds {
-            declared: numbers[2],
-            sizes: *sizes,
-            marks: *marks,
-        },
-        regions: Regions {
-            given: numbers[3],
-            names: *names,
-            parents: *parents,
-            levels: *levels,
-            shares: *shares,
-            newest: *newest,
-            oldest: *oldest,
-        },
-        pages: Pages {
-            made: numbers[4],
-            owners: *owners,
-            taken: *taken,
-        },
-    };
-    shapes::state_shaped(s);
-    s
-}
-
-// The memory holds the state.
-fn hold(
-    s: State,
-    numbers: &mut [u32; 5],
-    widths: &mut [u8; 32],
-    slots: &mut [u32; 256],
-    sizes: &mut [u8; 16],
-    marks: &mut [u8; 256],
-    names: &mut [u32; 64],
-    parents: &mut [u8; 64],
-    levels: &mut [u8; 64],
-    shares: &mut [u32; 256],
-    newest: &mut [u16; 64],
-    oldest: &mut [u32; 64],
-    owners: &mut [u8; 256],
-    taken: &mut [u8; 256],
-)
-    ensures { λ _. ⌜ HoldsState s (now (numbers .exit) ∷ now (widths .exit) ∷ now (slots .exit) ∷ now (sizes .exit) ∷ now (marks .exit) ∷ now (names .exit) ∷ now (parents .exit) ∷ now (levels .exit) ∷ now (shares .exit) ∷ now (newest .exit) ∷ now (oldest .exit) ∷ now (owners .exit) ∷ now (taken .exit) ∷ []) ⌝ }
-{
-    shapes::state_shaped(s);
-    *numbers = [
-        s.frames.standing,
-        s.frames.counted,
-        s.kinds.declared,
-        s.regions.given,
-        s.pages.made,
-    ];
-    let widths_then = s.frames.widths;
-    *widths = widths_then;
-    let slots_then = s.frames.slots;
-    *slots = slots_then;
-    let sizes_then = s.kinds.sizes;
-    *sizes = sizes_then;
-    let marks_then = s.kinds.marks;
-    *marks = marks_then;
-    let names_then = s.regions.names;
-    *names = names_then;
-    let parents_then = s.regions.parents;
-    *parents = parents_then;
-    let levels_then = s.regions.levels;
-    *levels = levels_then;
-    let shares_then = s.regions.shares;
-    *shares = shares_then;
-    let newest_then = s.regions.newest;
-    *newest = newest_then;
-    let oldest_then = s.regions.oldest;
-    *oldest = oldest_then;
-    let owners_then = s.pages.owners;
-    *owners = owners_then;
-    let taken_then = s.pages.taken;
-    *taken = taken_then;
-}
+ghost use Rattle.abi.specs.Memory.{Made, Called, Viewed, layout};
 
 // Make: what the arrays held does not matter. The reply is the refusal's number, 0 where the call was accepted, and four values.
 #[no_mangle]
@@ -137,10 +27,17 @@ pub extern "C" fn region_store_make(
 )
     ensures { λ _. ⌜ Made (now (heap .entry)) (now (numbers .exit) ∷ now (widths .exit) ∷ now (slots .exit) ∷ now (sizes .exit) ∷ now (marks .exit) ∷ now (names .exit) ∷ now (parents .exit) ∷ now (levels .exit) ∷ now (shares .exit) ∷ now (newest .exit) ∷ now (oldest .exit) ∷ now (owners .exit) ∷ now (taken .exit) ∷ []) (now (heap .exit)) (now (reply .exit)) ⌝ }
 {
-    let m = store::make(heap);
-    hold(
-        m.state,
-        numbers,
+    let mut standing = 0;
+    let mut counted = 0;
+    let mut declared = 0;
+    let mut given = 0;
+    let mut made = 0;
+    let r = store::make_in(
+        &mut standing,
+        &mut counted,
+        &mut declared,
+        &mut given,
+        &mut made,
         widths,
         slots,
         sizes,
@@ -153,11 +50,37 @@ pub extern "C" fn region_store_make(
         oldest,
         owners,
         taken,
+        heap,
     );
-    *reply = [m.reply.refusal, m.reply.a, m.reply.b, m.reply.c, m.reply.d];
+    shapes::arrays_shaped(
+        standing,
+        counted,
+        declared,
+        given,
+        made,
+        *widths,
+        *slots,
+        *sizes,
+        *marks,
+        *names,
+        *parents,
+        *levels,
+        *shares,
+        *newest,
+        *oldest,
+        *owners,
+        *taken,
+    );
+    *numbers = [standing, counted, declared, given, made];
+    *reply = [r.refusal, r.a, r.b, r.c, r.d];
 }
 
-// Any call but make, by its number, as `store::call` takes it.
+// What the type says of the numbers. It does nothing: its contract is what it is for.
+fn five(numbers: [u32; 5])
+    ensures { λ _. ⌜ length numbers ≡ 5 ⌝ }
+{}
+
+// Any call but make, by its number, as `store::call_in` takes it.
 #[no_mangle]
 pub extern "C" fn region_store_call(
     numbers: &mut [u32; 5],
@@ -185,8 +108,37 @@ pub extern "C" fn region_store_call(
     ensures { λ _. ⌜ Called number a b c d (now (list .entry)) (now (numbers .entry) ∷ now (widths .entry) ∷ now (slots .entry) ∷ now (sizes .entry) ∷ now (marks .entry) ∷ now (names .entry) ∷ now (parents .entry) ∷ now (levels .entry) ∷ now (shares .entry) ∷ now (newest .entry) ∷ now (oldest .entry) ∷ now (owners .entry) ∷ now (taken .entry) ∷ []) (now (heap .entry)) (now (numbers .exit) ∷ now (widths .exit) ∷ now (slots .exit) ∷ now (sizes .exit) ∷ now (marks .exit) ∷ now (names .exit) ∷ now (parents .exit) ∷ now (levels .exit) ∷ now (shares .exit) ∷ now (newest .exit) ∷ now (oldest .exit) ∷ now (owners .exit) ∷ now (taken .exit) ∷ []) (now (heap .exit)) (now (reply .exit)) ⌝ }
 {
     let n = *numbers;
-    let s = held(
-        n,
+    five(n);
+    let mut standing = n[0];
+    let mut counted = n[1];
+    let mut declared = n[2];
+    let mut given = n[3];
+    let mut made = n[4];
+    shapes::arrays_shaped(
+        standing,
+        counted,
+        declared,
+        given,
+        made,
+        *widths,
+        *slots,
+        *sizes,
+        *marks,
+        *names,
+        *parents,
+        *levels,
+        *shares,
+        *newest,
+        *oldest,
+        *owners,
+        *taken,
+    );
+    let r = store::call_in(
+        &mut standing,
+        &mut counted,
+        &mut declared,
+        &mut given,
+        &mut made,
         widths,
         slots,
         sizes,
@@ -199,39 +151,36 @@ pub extern "C" fn region_store_call(
         oldest,
         owners,
         taken,
+        heap,
+        number,
+        a,
+        b,
+        c,
+        d,
+        list,
     );
-    let e = store::call(s, heap, number, a, b, c, d, list);
-    hold(
-        e.state,
-        numbers,
-        widths,
-        slots,
-        sizes,
-        marks,
-        names,
-        parents,
-        levels,
-        shares,
-        newest,
-        oldest,
-        owners,
-        taken,
+    shapes::arrays_shaped(
+        standing,
+        counted,
+        declared,
+        given,
+        made,
+        *widths,
+        *slots,
+        *sizes,
+        *marks,
+        *names,
+        *parents,
+        *levels,
+        *shares,
+        *newest,
+        *oldest,
+        *owners,
+        *taken,
     );
-    *reply = [e.reply.refusal, e.reply.a, e.reply.b, e.reply.c, e.reply.d];
-}
-
-// The length of a part that has at most 16 words.
-fn few(part: &[u32]) -> u32
-    ensures { λ r. ⌜ (length (now (part .entry)) ≤ 16 → r ≡ length (now (part .entry))) ⌝ }
-{
-    (part.len() % 4294967296) as u32
-}
-
-// Where a part begins that has so many words, of the object that v leads to.
-fn place_of(v: u32, count: u32) -> u32
-    ensures { λ r. ⌜ r ≡ pick (eqb count 0) 0 v ⌝ }
-{
-    if count == 0 { 0 } else { v }
+    let m = [standing, counted, declared, given, made];
+    *numbers = m;
+    *reply = [r.refusal, r.a, r.b, r.c, r.d];
 }
 
 // View: the refusal's number, and the part as its place and its length in the heap, both 0 where there is none.
@@ -257,8 +206,78 @@ pub extern "C" fn region_store_view(
     ensures { λ _. ⌜ Viewed slot (now (numbers .entry) ∷ now (widths .entry) ∷ now (slots .entry) ∷ now (sizes .entry) ∷ now (marks .entry) ∷ now (names .entry) ∷ now (parents .entry) ∷ now (levels .entry) ∷ now (shares .entry) ∷ now (newest .entry) ∷ now (oldest .entry) ∷ now (owners .entry) ∷ now (taken .entry) ∷ []) (now (heap .entry)) (now (out .exit)) ⌝ }
 {
     let n = *numbers;
-    let s = held(
-        n,
+    five(n);
+    shapes::arrays_shaped(
+        n[0],
+        n[1],
+        n[2],
+        n[3],
+        n[4],
+        *widths,
+        *slots,
+        *sizes,
+        *marks,
+        *names,
+        *parents,
+        *levels,
+        *shares,
+        *newest,
+        *oldest,
+        *owners,
+        *taken,
+    );
+    let v = store::view_in(n[4], n[0], n[2], widths, slots, sizes, marks, heap, slot);
+    *out = [v.refusal, v.place, v.count];
+}
+
+// Audit by itself, for a host that asks whether memory is a store before it makes any call on it. It is also what keeps audit's own 16 KB of stack out of region_store_call: the compiler puts a function that is called in two places into neither.
+#[no_mangle]
+pub extern "C" fn region_store_audit<'a>(
+    numbers: &[u32; 5],
+    widths: &'a [u8; 32],
+    slots: &'a [u32; 256],
+    sizes: &'a [u8; 16],
+    marks: &'a [u8; 256],
+    names: &'a [u32; 64],
+    parents: &'a [u8; 64],
+    levels: &'a [u8; 64],
+    shares: &'a [u32; 256],
+    newest: &'a [u16; 64],
+    oldest: &'a [u32; 64],
+    owners: &'a [u8; 256],
+    taken: &'a [u8; 256],
+    heap: &[u32],
+    reply: &mut [u32; 5],
+)
+    ensures { λ _. ⌜ Called 22 0 0 0 0 [] (now (numbers .entry) ∷ now (widths .entry) ∷ now (slots .entry) ∷ now (sizes .entry) ∷ now (marks .entry) ∷ now (names .entry) ∷ now (parents .entry) ∷ now (levels .entry) ∷ now (shares .entry) ∷ now (newest .entry) ∷ now (oldest .entry) ∷ now (owners .entry) ∷ now (taken .entry) ∷ []) (now (heap .entry)) (now (numbers .entry) ∷ now (widths .entry) ∷ now (slots .entry) ∷ now (sizes .entry) ∷ now (marks .entry) ∷ now (names .entry) ∷ now (parents .entry) ∷ now (levels .entry) ∷ now (shares .entry) ∷ now (newest .entry) ∷ now (oldest .entry) ∷ now (owners .entry) ∷ now (taken .entry) ∷ []) (now (heap .entry)) (now (reply .exit)) ⌝ }
+{
+    let n = *numbers;
+    five(n);
+    shapes::arrays_shaped(
+        n[0],
+        n[1],
+        n[2],
+        n[3],
+        n[4],
+        *widths,
+        *slots,
+        *sizes,
+        *marks,
+        *names,
+        *parents,
+        *levels,
+        *shares,
+        *newest,
+        *oldest,
+        *owners,
+        *taken,
+    );
+    let r = store::audit_in(
+        n[4],
+        n[0],
+        n[1],
+        n[2],
+        n[3],
         widths,
         slots,
         sizes,
@@ -271,13 +290,9 @@ pub extern "C" fn region_store_view(
         oldest,
         owners,
         taken,
+        heap,
     );
-    let refusal = store::view_refusal(s, heap, slot);
-    let part = store::view(s, heap, slot);
-    let f = s.frames;
-    let v = checks::top_slot(f.standing, &f.slots, slot);
-    let count = few(part);
-    *out = [refusal, place_of(v, count), count];
+    *reply = [r.refusal, r.a, r.b, r.c, r.d];
 }
 
 // Numbers written from the start on, as far as there is room.

@@ -3,45 +3,31 @@
 use mathlib.Core.Path.{_≡_, refl, sym, ap, _∙_}
 use mathlib.Core.Bool.{Bool, true, false}
 use mathlib.Core.List.{List, [], _∷_, _++_, append-nil}
-use Prim.Native.Nat.{ℕ, zero, suc, _*_, _%_, _≤_, _<_, min}
+use Prim.Native.Nat.{ℕ, _+_, _*_, _≤_, min}
 use native.Mathlib.Omega.{arith}
 use lib.Dec.{eqb}
 use lib.ListN.{length, getD, take, drop, length-take, length-drop, length-append}
 use lib.Seq.{take-at, take-all, length-take-le}
 use borrow.Author.Tests.{ne-eqb}
 use Rattle.lists.specs.Lists.{pick}
-use Rattle.model.specs.Model.{Answer, Call, view}
-use Rattle.objects.specs.Objects.{wordCount}
+use Rattle.model.specs.Model.{view}
 use Rattle.state.specs.declared.State.{State}
 use Rattle.state.specs.declared.Reply.{Reply}
-use Rattle.outcomes.specs.Store.{Store, kinds, slot}
-use Rattle.outcomes.specs.Outcome.{Outcome, MakeOutcome, Answered, Accepted, answerOf, store, refusal, viewAnswer}
-use Rattle.store.specs.Dispatch.{isCall, decoded, DispatchedBy, Dispatched}
+use Rattle.outcomes.specs.Store.{Store}
+use Rattle.outcomes.specs.Outcome.{Outcome, MakeOutcome, answerOf, store, refusal, viewAnswer}
+use Rattle.dispatch.specs.Dispatch.{isCall, decoded, DispatchedBy, Dispatched}
 use Rattle.script.specs.declared.Line.{Line}
 use Rattle.script.specs.Script.{fillers}
 use Rattle.numbers.specs.Numbers.{fillerPlace, wordsAfter}
 use Rattle.lists.specs.Laws.Parts.{front-same}
 use Rattle.actions.specs.Acts.{lineCall, printed, Replied, CalledBy, Called, Acts}
 
-part-within : (n v : ℕ) (l : List ℕ) → length (take n (drop v l)) ≤ length l
-part-within n v l = omega (arith, length-take n (drop v l), length-drop v l)
-
--- view's part is no longer than the heap
-part-short : (S : Store) (s : ℕ) (a : Answer) (T : Store) → Outcome (view s) S a T → length (a .part) ≤ length (S .heap)
-unfolding Outcome Accepted
-part-short S s a T o = go (refusal S (view s)) o
-  where
-    go : (n : ℕ) → Answered n (view s) S a T → length (a .part) ≤ length (S .heap)
-    go zero q = rw (q .0) (part-within (wordCount (kinds S) (S .heap) (slot S s)) (slot S s) (S .heap))
-    go (suc n) q = rw (q .0) (omega arith)
-
--- g and n are what functions gave: the refusal, and the length of the part
-pub view-replied : (S : Store) (s g n : ℕ) (p : List ℕ) → g ≡ refusal S (view s) → n ≡ length p % 4294967296 → Outcome (view s) S (viewAnswer S s p) S
-    → length (S .heap) < 4294967296 → Replied 17 (view s) S (record { refusal = g; a = n; b = 0; c = 0; d = 0 }) S
-view-replied S s g n p eg en o h =
-    let k = part-short S s (viewAnswer S s p) S o in
-    let e : n ≡ length p = omega (arith, k) in
-    (viewAnswer S s p, o, rw (eg, e))
+-- g, p and n are what view in place gave: the refusal, and the part's place and length
+pub view-replied : (S : Store) (s g p n : ℕ) → g ≡ refusal S (view s) → p + n ≤ length (S .heap) → Outcome (view s) S (viewAnswer S s (take n (drop p (S .heap)))) S
+    → Replied 17 (view s) S (record { refusal = g; a = n; b = 0; c = 0; d = 0 }) S
+view-replied S s g p n e within o =
+    let f : n ≡ length (take n (drop p (S .heap))) = omega (arith, within, length-take n (drop p (S .heap)), length-drop p (S .heap)) in
+    (viewAnswer S s (take n (drop p (S .heap))), o, rw (e, ← f))
 
 pub view-called : (l : Line) (S : Store) (r : Reply) (T : Store) → l .call ≡ 17 → Replied 17 (view (getD (l .args) 0 0)) S r T → Called l S r T
 unfolding Called decoded fillerPlace fillers

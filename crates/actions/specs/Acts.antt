@@ -11,7 +11,7 @@ use Rattle.model.specs.Model.{Answer, Call, refusedBy}
 use Rattle.state.specs.declared.Reply.{Reply}
 use Rattle.outcomes.specs.Store.{Store}
 use Rattle.outcomes.specs.Outcome.{Outcome, MakeOutcome, store}
-use Rattle.store.specs.Dispatch.{isCall, decoded}
+use Rattle.dispatch.specs.Dispatch.{isCall, decoded}
 use Rattle.script.specs.declared.Line.{Line}
 use Rattle.numbers.specs.Numbers.{fillerPlace}
 

@@ -1,26 +1,56 @@
-// What the calls cost: functions that C calls, each of which makes a store in the heap that it is lent, then makes one call n times.
-// A call costs the difference of a run of 2n and one of n, divided by n: making the store cancels out.
-// `once`, `again` and `times` say which store, as `prepared_for` reads them; `which` says which call, by its number in `store::call`, of a pair by the number of one of the two.
-// Each gives a sum of the replies, or of their grounds of refusal alone where the state changes, so that C can see that the calls were accepted, and none of them is left out by the compiler.
+// What the calls cost: `bench`, which C calls, makes a store in the heap that it is lent, then makes n calls on it.
+// A call costs the difference of two runs that differ by so many calls: making the store cancels out.
+use frames::Frames;
+use kinds::Kinds;
+use pages::Pages;
+use regions::Regions;
 use state::Done;
 use state::Reply;
 use state::State;
 
-// The most calls that a run makes.
-const MOST: u32 = 1000000000;
+// As an argument a or b of a row: the name that was given last.
+const LAST: u32 = 4294967295;
 
-// What a reply says, added to the sum.
-fn noted(sum: u32, r: Reply) -> u32 {
-    let a = std::num::wrapping_add_u32(r.refusal, r.a);
-    let b = std::num::wrapping_add_u32(r.b, r.c);
-    let c = std::num::wrapping_add_u32(a, b);
-    let d = std::num::wrapping_add_u32(c, r.d);
-    std::num::wrapping_add_u32(sum, d)
+// More calls than any run makes.
+const MOST: usize = 1000000000;
+
+// An argument of a row.
+fn meant(x: u32, given: u32) -> u32 {
+    if x == LAST { given } else { x }
 }
 
-// Its ground of refusal alone, added to the sum.
-fn refused(sum: u32, r: Reply) -> u32 {
-    std::num::wrapping_add_u32(sum, r.refusal)
+// The row after row j of n, round and round.
+fn after(j: usize, n: usize) -> usize {
+    if j < n {
+        if j + 1 < n {
+            return j + 1;
+        }
+    }
+    0
+}
+
+// What a reply says, added to the sums: the grounds of refusal, and in `a` the values.
+fn noted(sum: Reply, r: Reply) -> Reply {
+    let ab = std::num::wrapping_add_u32(r.a, r.b);
+    let cd = std::num::wrapping_add_u32(r.c, r.d);
+    let all = std::num::wrapping_add_u32(ab, cd);
+    Reply {
+        refusal: std::num::wrapping_add_u32(sum.refusal, r.refusal),
+        a: std::num::wrapping_add_u32(sum.a, all),
+        b: 0,
+        c: 0,
+        d: 0,
+    }
+}
+
+fn nothing() -> Reply {
+    Reply {
+        refusal: 0,
+        a: 0,
+        b: 0,
+        c: 0,
+        d: 0,
+    }
 }
 
 // The length of a part, as a reply.
@@ -35,9 +65,172 @@ fn viewed(part: &[u32]) -> Reply {
     }
 }
 
-// The sum, with the audit of the store that the calls left: 1 more.
-fn ended(s: State, heap: &[u32], sum: u32) -> u32 {
-    noted(sum, store::audit(s, heap))
+// The calls of these rows, n in all, round and round, each on what the one before left: in place, by `store::call_in`. A row is the call's number and four arguments. Gives the sums of the replies, and the state.
+fn in_place(s: State, heap: &mut [u32], rows: &[[u32; 5]], list: &[u32], n: usize) -> Done {
+    let mut standing = s.frames.standing;
+    let mut counted = s.frames.counted;
+    let mut declared = s.kinds.declared;
+    let mut given = s.regions.given;
+    let mut made = s.pages.made;
+    let mut widths = s.frames.widths;
+    let mut slots = s.frames.slots;
+    let mut sizes = s.kinds.sizes;
+    let mut marks = s.kinds.marks;
+    let mut names = s.regions.names;
+    let mut parents = s.regions.parents;
+    let mut levels = s.regions.levels;
+    let mut shares = s.regions.shares;
+    let mut newest = s.regions.newest;
+    let mut oldest = s.regions.oldest;
+    let mut owners = s.pages.owners;
+    let mut taken = s.pages.taken;
+    let mut sum = nothing();
+    let mut i: usize = 0;
+    let mut j: usize = 0;
+    while j < rows.len() {
+        if n <= i {
+            break;
+        }
+        i += 1;
+        let r = rows[j];
+        j = after(j, rows.len());
+        let a = meant(r[1], given);
+        let b = meant(r[2], given);
+        let reply = store::call_in(
+            &mut standing,
+            &mut counted,
+            &mut declared,
+            &mut given,
+            &mut made,
+            &mut widths,
+            &mut slots,
+            &mut sizes,
+            &mut marks,
+            &mut names,
+            &mut parents,
+            &mut levels,
+            &mut shares,
+            &mut newest,
+            &mut oldest,
+            &mut owners,
+            &mut taken,
+            heap,
+            r[0],
+            a,
+            b,
+            r[3],
+            r[4],
+            list,
+        );
+        sum = noted(sum, reply);
+    }
+    let state = State {
+        frames: Frames {
+            standing,
+            counted,
+            widths,
+            slots,
+        },
+        kinds: Kinds {
+            declared,
+            sizes,
+            marks,
+        },
+        regions: Regions {
+            given,
+            names,
+            parents,
+            levels,
+            shares,
+            newest,
+            oldest,
+        },
+        pages: Pages {
+            made,
+            owners,
+            taken,
+        },
+    };
+    Done { state, reply: sum }
+}
+
+// The same by value, by the calls' names: those that change the state. 100 more than a number: that call by `store::call`.
+fn changing(s: State, heap: &mut [u32], rows: &[[u32; 5]], list: &[u32], n: usize) -> Done {
+    // The compiler puts no function with large locals into one that can call itself: what is measured is a call as it stands.
+    if MOST < n {
+        return changing(s, heap, rows, list, MOST);
+    }
+    let mut t = s;
+    let mut sum = nothing();
+    let mut i: usize = 0;
+    let mut j: usize = 0;
+    while j < rows.len() {
+        if n <= i {
+            break;
+        }
+        i += 1;
+        let r = rows[j];
+        j = after(j, rows.len());
+        let a = meant(r[1], t.regions.given);
+        let b = meant(r[2], t.regions.given);
+        let c = r[3];
+        let d = match r[0] {
+            3 => store::new_region(t, heap),
+            4 => store::subregion(t, heap, a),
+            5 => store::push(t, heap, a),
+            6 => store::drop(t, heap, a),
+            7 => store::hand_back(t, heap, a, b, c),
+            8 => store::allocate(t, heap, a, b, c),
+            9 => store::first(t, heap, a, b),
+            10 => store::copy(t, heap, a, b),
+            11 => store::fetch(t, heap, a, b),
+            12 => store::clear(t, heap, a),
+            13 => store::load(t, heap, a, b, c),
+            14 => store::set_pointer(t, heap, a, b, c, r[4]),
+            23 => store::delete(t, heap, a, b),
+            24 => store::delete_all(t, heap, list, a),
+            _ => store::call(t, heap, r[0] % 100, a, b, c, r[4], list),
+        };
+        t = d.state;
+        sum = noted(sum, d.reply);
+    }
+    Done {
+        state: t,
+        reply: sum,
+    }
+}
+
+// The same by value, by the calls' names: those that only answer, and put.
+fn answering(s: State, heap: &mut [u32], rows: &[[u32; 5]], n: usize) -> Reply {
+    // As in `changing`.
+    if MOST < n {
+        return answering(s, heap, rows, MOST);
+    }
+    let mut sum = nothing();
+    let mut i: usize = 0;
+    let mut j: usize = 0;
+    while j < rows.len() {
+        if n <= i {
+            break;
+        }
+        i += 1;
+        let r = rows[j];
+        j = after(j, rows.len());
+        let a = r[1];
+        let reply = match r[0] {
+            15 => store::put(s, heap, a, r[2], r[3]),
+            16 => store::get(s, heap, a, r[2]),
+            17 => viewed(store::view(s, heap, a)),
+            18 => store::same(s, heap, a, r[2]),
+            19 => store::about(s, heap, a),
+            20 => store::report(s, heap, a),
+            21 => store::totals(s),
+            22 => store::audit(s, heap),
+            _ => store::locate(s, heap, a),
+        };
+        sum = noted(sum, reply);
+    }
+    sum
 }
 
 // The five kinds of every store here: a free pointer and a number; one free pointer; three numbers; three free pointers; one pointer marked 3. And a frame of 8 slots.
@@ -56,257 +249,52 @@ fn begun(s: State, heap: &[u32]) -> State {
     f.state
 }
 
-// The calls that these codes say. A code has the call's number and three arguments of two digits each: 8000201 is allocate (8) in slot 0 for region 2, of kind 1.
-fn led(s: State, heap: &mut [u32], codes: &[u32]) -> State {
-    let none = [0u32; 0];
-    let mut t = s;
-    let mut i: usize = 0;
-    while i < codes.len() {
-        let k = codes[i];
-        let a = k / 10000 % 100;
-        let b = k / 100 % 100;
-        let d = store::call(t, heap, k / 1000000, a, b, k % 100, 0, &none);
-        t = d.state;
-        i += 1;
-    }
-    t
-}
-
-// The same, so many times over.
-fn led_again(s: State, heap: &mut [u32], codes: &[u32], times: u32) -> State {
-    let mut t = s;
-    let mut i: u32 = 0;
-    while i < times {
-        i += 1;
-        let u = led(t, heap, codes);
-        t = u;
-    }
-    t
-}
-
-// The store after the calls `once`, and then the calls `again`, so many times.
-fn prepared_for(heap: &mut [u32], once: &[u32], again: &[u32], times: u32) -> State {
-    let d = store::make(heap);
-    let s = begun(d.state, heap);
-    let t = led(s, heap, once);
-    led_again(t, heap, again, times)
-}
-
-// The calls that change the state, each on the state that the one before left.
-// Set pointer leads into one region, then into another, so that two counts move. 100 more than a number: that call by `store::call`, with 0 for each argument.
-#[no_mangle]
-pub extern "C" fn bench_changing(
+// A store after the calls `once`, each once, and then so many calls of `again`, round and round.
+fn prepared(
     heap: &mut [u32],
-    once: &[u32],
-    again: &[u32],
-    times: u32,
-    which: u32,
-    n: u32,
-) -> u32 {
-    // The compiler puts no function with large locals into one that can call itself: what is measured is a call as it stands.
-    if MOST < n {
-        return bench_changing(heap, once, again, times, which, MOST);
-    }
-    let none = [0u32; 0];
-    let mut s = prepared_for(heap, once, again, times);
-    let mut sum: u32 = 0;
-    let mut i: u32 = 0;
-    while i < n {
-        i += 1;
-        let d = match which {
-            9 => store::first(s, heap, 5, 2),
-            10 => store::copy(s, heap, 0, 5),
-            11 => store::fetch(s, heap, 0, 0),
-            12 => store::clear(s, heap, 0),
-            13 => store::load(s, heap, 0, 0, 5),
-            14 => store::set_pointer(s, heap, 0, 0, 1 + i % 2, 0),
-            _ => store::call(s, heap, which % 100, 0, 0, 0, 0, &none),
-        };
-        s = d.state;
-        sum = refused(sum, d.reply);
-    }
-    ended(s, heap, sum)
+    once: &[[u32; 5]],
+    again: &[[u32; 5]],
+    many: usize,
+    list: &[u32],
+) -> Done {
+    let m = store::make(heap);
+    let s = begun(m.state, heap);
+    let t = in_place(s, heap, once, list, once.len());
+    let u = in_place(t.state, heap, again, list, many);
+    let state = u.state;
+    let reply = noted(t.reply, u.reply);
+    Done { state, reply }
 }
 
-// Pairs of calls of which the second undoes the first.
+// The sum of the grounds of refusal times 2^32, and the sum of the values of the calls measured.
+fn told(before: Reply, r: Reply) -> u64 {
+    let refused = std::num::wrapping_add_u32(before.refusal, r.refusal);
+    refused as u64 * 4294967296 + r.a as u64
+}
+
+// Makes a store (`prepared`), then n calls of `rows`: way 0 in place, 1 by value, those that change the state, 2 by value, the others.
+// Gives what the replies add up to: C can see that all calls were accepted, and the compiler leaves none out.
 #[no_mangle]
-pub extern "C" fn bench_pairs(
+pub extern "C" fn bench(
     heap: &mut [u32],
-    once: &[u32],
-    again: &[u32],
-    times: u32,
-    which: u32,
-    n: u32,
-) -> u32 {
-    // As in `bench_changing`.
-    if MOST < n {
-        return bench_pairs(heap, once, again, times, which, MOST);
+    once: &[[u32; 5]],
+    again: &[[u32; 5]],
+    many: usize,
+    rows: &[[u32; 5]],
+    list: &[u32],
+    way: u32,
+    n: usize,
+) -> u64 {
+    let p = prepared(heap, once, again, many, list);
+    let s = p.state;
+    if way == 0 {
+        let d = in_place(s, heap, rows, list, n);
+        return told(p.reply, d.reply);
     }
-    let mut s = prepared_for(heap, once, again, times);
-    let mut sum: u32 = 0;
-    let mut i: u32 = 0;
-    while i < n {
-        i += 1;
-        let d = match which {
-            3 => {
-                let e = store::new_region(s, heap);
-                sum = refused(sum, e.reply);
-                store::delete(e.state, heap, e.reply.a, 0)
-            }
-            4 => {
-                let e = store::subregion(s, heap, 2);
-                sum = refused(sum, e.reply);
-                store::delete(e.state, heap, e.reply.a, 0)
-            }
-            6 => {
-                let e = store::push(s, heap, 8);
-                sum = refused(sum, e.reply);
-                store::drop(e.state, heap, 0)
-            }
-            _ => {
-                let e = store::push(s, heap, 8);
-                sum = refused(sum, e.reply);
-                store::hand_back(e.state, heap, 0, 5, 0)
-            }
-        };
-        s = d.state;
-        sum = refused(sum, d.reply);
+    if way == 1 {
+        let d = changing(s, heap, rows, list, n);
+        return told(p.reply, d.reply);
     }
-    ended(s, heap, sum)
-}
-
-// The calls that only answer, and put.
-#[no_mangle]
-pub extern "C" fn bench_answering(
-    heap: &mut [u32],
-    once: &[u32],
-    again: &[u32],
-    times: u32,
-    which: u32,
-    n: u32,
-) -> u32 {
-    // As in `bench_changing`.
-    if MOST < n {
-        return bench_answering(heap, once, again, times, which, MOST);
-    }
-    let s = prepared_for(heap, once, again, times);
-    let mut sum: u32 = 0;
-    let mut i: u32 = 0;
-    while i < n {
-        i += 1;
-        let r = match which {
-            15 => store::put(s, heap, 0, 1, i),
-            16 => store::get(s, heap, i % 2, 1),
-            17 => viewed(store::view(s, heap, 3 + i % 2)),
-            18 => store::same(s, heap, 0, i % 2),
-            19 => store::about(s, heap, i % 2),
-            20 => store::report(s, heap, 2),
-            21 => store::totals(s),
-            25 => store::locate(s, heap, i % 2),
-            _ => store::audit(s, heap),
-        };
-        sum = noted(sum, r);
-    }
-    sum
-}
-
-// Calls that would use the store up, each time on the same state: 8 is allocate where the newest page has room, 108 in region 7, which has no page yet, and 23 the delete of region 5.
-// For comparison 0: one copy of the state, changed in one number.
-#[no_mangle]
-pub extern "C" fn bench_again(
-    heap: &mut [u32],
-    once: &[u32],
-    again: &[u32],
-    times: u32,
-    which: u32,
-    n: u32,
-) -> u32 {
-    // As in `bench_changing`.
-    if MOST < n {
-        return bench_again(heap, once, again, times, which, MOST);
-    }
-    let s = prepared_for(heap, once, again, times);
-    let mut t = s;
-    let mut sum: u32 = 0;
-    let mut i: u32 = 0;
-    while i < n {
-        i += 1;
-        match which {
-            0 => {
-                let k = i % 2;
-                t = s;
-                t.frames.counted = k;
-            }
-            8 => {
-                let d = store::allocate(s, heap, 5, 2, 1);
-                t = d.state;
-                sum = noted(sum, d.reply);
-            }
-            108 => {
-                let d = store::allocate(s, heap, 5, 7, 1);
-                t = d.state;
-                sum = noted(sum, d.reply);
-            }
-            _ => {
-                let d = store::delete(s, heap, 5, 0);
-                t = d.state;
-                sum = noted(sum, d.reply);
-            }
-        }
-    }
-    ended(t, heap, sum)
-}
-
-// The deletes of these regions, one after the other, and a reply with the sum of what they gave.
-fn one_by_one(s: State, heap: &[u32], list: &[u32]) -> Done {
-    let mut t = s;
-    let mut sum: u32 = 0;
-    let mut i: usize = 0;
-    while i < list.len() {
-        let d = store::delete(t, heap, list[i], 0);
-        i += 1;
-        t = d.state;
-        sum = noted(sum, d.reply);
-    }
-    Done {
-        state: t,
-        reply: Reply {
-            refusal: 0,
-            a: sum,
-            b: 0,
-            c: 0,
-            d: 0,
-        },
-    }
-}
-
-// Regions 17 to 2 deleted, each time on the same state: 24 together, 23 one after the other.
-#[no_mangle]
-pub extern "C" fn bench_deletes(
-    heap: &mut [u32],
-    once: &[u32],
-    again: &[u32],
-    times: u32,
-    which: u32,
-    n: u32,
-) -> u32 {
-    // As in `bench_changing`.
-    if MOST < n {
-        return bench_deletes(heap, once, again, times, which, MOST);
-    }
-    let list = [17u32, 16, 15, 14, 13, 12, 11, 10, 9, 8, 7, 6, 5, 4, 3, 2];
-    let s = prepared_for(heap, once, again, times);
-    let mut t = s;
-    let mut sum: u32 = 0;
-    let mut i: u32 = 0;
-    while i < n {
-        i += 1;
-        let d = match which {
-            24 => store::delete_all(s, heap, &list, 0),
-            _ => one_by_one(s, heap, &list),
-        };
-        t = d.state;
-        sum = noted(sum, d.reply);
-    }
-    ended(t, heap, sum)
+    let r = answering(s, heap, rows, n);
+    told(p.reply, r)
 }

@@ -1,13 +1,11 @@
 // Allocate (document 01's call 8), and where a region's next object stands.
-use state::Done;
-use state::State;
+use state::Reply;
 ghost use mathlib.Core.Path.{_≡_};
-ghost use mathlib.Core.List.{[]};
-ghost use Prim.Native.Nat.{_<_, _≤_};
+ghost use Prim.Native.Nat.{ℕ, _<_, _≤_};
 ghost use lib.ListN.{getD};
 ghost use Rattle.model.specs.Model.{allocate};
 ghost use Rattle.model.specs.Calls.{reason};
-ghost use Rattle.outcomes.specs.Outcome.{Outcome, answerOf, store};
+ghost use Rattle.lent.specs.Lent.{InPlace, withMade, withStanding, withDeclared, withWidths, withSlots, withSizes, withNames, withNewest, withOldest, withOwners, withTaken};
 ghost use Rattle.calls_allocate.specs.Places.{allocateTests, freePlace, placeFor, oldestWith};
 
 // A pointer to the start of the lowest free page, 0 where none is free.
@@ -64,45 +62,57 @@ fn oldest_with(oldest: &[u32], e: u32, v: u32) -> u32
     if o == 0 { v } else { o }
 }
 
+// What the types say of the newest pages. It does nothing: its contract is what it is for.
+fn newest_shaped(newest: [u16; 64])
+    ensures { λ _. ⌜ ((i : ℕ) → getD newest i 0 < 65536) ⌝ }
+{}
+
 // Document 01's call 8: an object of that kind, made for the region and put in the slot.
-pub fn allocate(s: State, heap: &mut [u32], slot: u32, region: u32, kind: u32) -> Done
-    ensures { λ r. ⌜ Outcome (allocate slot region kind) (store s (now (heap .entry))) (answerOf (r .reply) []) (store (r .state) (now (heap .exit))) ⌝ }
+pub fn allocate_in(
+    made: u32,
+    standing: u32,
+    declared: u32,
+    widths: &[u8; 32],
+    slots: &mut [u32; 256],
+    sizes: &[u8; 16],
+    names: &[u32; 64],
+    newest: &mut [u16; 64],
+    oldest: &mut [u32; 64],
+    owners: &mut [u8; 256],
+    taken: &mut [u8; 256],
+    heap: &mut [u32],
+    slot: u32,
+    region: u32,
+    kind: u32,
+) -> Reply
+    ensures { λ r. ⌜ InPlace (allocate slot region kind) (λ s. withMade made (withStanding standing (withDeclared declared (withWidths (now (widths .entry)) (withSizes (now (sizes .entry)) (withNames (now (names .entry)) (withSlots (now (slots .entry)) (withNewest (now (newest .entry)) (withOldest (now (oldest .entry)) (withOwners (now (owners .entry)) (withTaken (now (taken .entry)) s))))))))))) (now (heap .entry)) r (λ s. withSlots (now (slots .exit)) (withNewest (now (newest .exit)) (withOldest (now (oldest .exit)) (withOwners (now (owners .exit)) (withTaken (now (taken .exit)) s))))) (now (heap .exit)) ⌝ }
 {
-    let mut t = s;
-    let f = t.frames.standing;
-    let h = checks::top_refusal(t.pages.made, heap.len(), f, &t.frames.widths, slot, slot);
+    let h = checks::top_refusal(made, heap.len(), standing, widths, slot, slot);
     if h != 0 {
-        return Done {
-            state: t,
-            reply: checks::refused(h),
-        };
+        return checks::refused(h);
     }
-    let e = regions::entry_of(&t.regions.names, region);
-    let n = kinds::size_of(t.kinds.declared, &t.kinds.sizes, kind);
+    let e = regions::entry_of(names, region);
+    let n = kinds::size_of(declared, sizes, kind);
     let words = 1 + n;
-    let q = regions::newest_at(&t.regions.newest, e);
-    let v = place_for(t.pages.made, &t.pages.owners, &t.pages.taken, q, words);
-    let g = allocate_refusal(t.kinds.declared, e, kind, v);
+    let pages = *newest;
+    newest_shaped(pages);
+    let q = regions::newest_at(newest, e);
+    let v = place_for(made, owners, taken, q, words);
+    let g = allocate_refusal(declared, e, kind, v);
     if g != 0 {
-        return Done {
-            state: t,
-            reply: checks::refused(g),
-        };
+        return checks::refused(g);
     }
     let at = v - 1;
     let j = at / 64;
     let tag = (e + 1) as u8;
-    let newest = (j + 1) as u16;
-    let taken = (at % 64 + words) as u8;
-    let o = oldest_with(&t.regions.oldest, e, v);
+    let page = (j + 1) as u16;
+    let end = (at % 64 + words) as u8;
+    let o = oldest_with(oldest, e, v);
     cells::lay(heap, at, kind, n);
-    regions::put_half(&mut t.regions.newest, e, newest);
-    regions::put_word(&mut t.regions.oldest, e, o);
-    pages::put_byte(&mut t.pages.owners, j, tag);
-    pages::put_byte(&mut t.pages.taken, j, taken);
-    frames::put_slot(&mut t.frames.slots, frames::top(f), slot, v);
-    Done {
-        state: t,
-        reply: checks::gives(0, 0, 0, 0),
-    }
+    regions::put_half(newest, e, page);
+    regions::put_word(oldest, e, o);
+    pages::put_byte(owners, j, tag);
+    pages::put_byte(taken, j, end);
+    frames::put_slot(slots, frames::top(standing), slot, v);
+    checks::gives(0, 0, 0, 0)
 }

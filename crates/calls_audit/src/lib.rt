@@ -1,11 +1,9 @@
 // The call audit.
 use state::Reply;
-use state::State;
 ghost use mathlib.Core.Path.{_≡_};
-ghost use mathlib.Core.List.{[]};
+ghost use lib.ListN.{length};
 ghost use Rattle.model.specs.Model.{audit};
-ghost use Rattle.outcomes.specs.Shape.{Bits32, Sized, Shaped};
-ghost use Rattle.outcomes.specs.Outcome.{Outcome, answerOf, store};
+ghost use Rattle.lent.specs.Lent.{InPlace, withMade, withStanding, withCounted, withDeclared, withGiven, withWidths, withSlots, withSizes, withMarks, withNames, withParents, withLevels, withShares, withNewest, withOldest, withOwners, withTaken};
 ghost use Rattle.calls_audit.specs.Passes.{heapFits, passesIn};
 
 // The tests of the heap. Headers are ticked in `heads`.
@@ -130,40 +128,60 @@ fn passes<'a>(
     )
 }
 
-// Document 01's call 22: 1 for memory that keeps the rules, else 0. The contract says too what demand 3 asks of audited memory beside that, the lengths of the state's arrays; and that the
-// memory is of the language's types where the heap's words are.
-// `state_shaped` does nothing: the types give those lengths, and that shares are below 2^32, so that pointers that leave them one by one leave what they leave together.
-pub fn audit(s: State, heap: &[u32]) -> Reply
-    ensures { λ r. ⌜ Outcome audit (store s (now (heap .entry))) (answerOf r []) (store s (now (heap .entry))) × Sized (store s (now (heap .entry))) × (Bits32 (now (heap .entry)) → Shaped (store s (now (heap .entry)))) ⌝ }
+// What the types say of the names. It does nothing: its contract is what it is for.
+fn names_shaped(names: [u32; 64])
+    ensures { λ _. ⌜ length names ≡ 64 ⌝ }
+{}
+
+// Document 01's call 22: 1 for memory that keeps the rules, else 0. Pointers leave a copy of the shares, which the types keep below 2^32, so that leaving one by one they leave what they leave together.
+pub fn audit_in<'a>(
+    made: u32,
+    standing: u32,
+    counted: u32,
+    declared: u32,
+    given: u32,
+    widths: &'a [u8; 32],
+    slots: &'a [u32; 256],
+    sizes: &'a [u8; 16],
+    marks: &'a [u8; 256],
+    names: &'a [u32; 64],
+    parents: &'a [u8; 64],
+    levels: &'a [u8; 64],
+    shares: &'a [u32; 256],
+    newest: &'a [u16; 64],
+    oldest: &'a [u32; 64],
+    owners: &'a [u8; 256],
+    taken: &'a [u8; 256],
+    heap: &[u32],
+) -> Reply
+    ensures { λ r. ⌜ InPlace audit (λ s. withMade made (withStanding standing (withCounted counted (withDeclared declared (withGiven given (withWidths (now (widths .entry)) (withSlots (now (slots .entry)) (withSizes (now (sizes .entry)) (withMarks (now (marks .entry)) (withNames (now (names .entry)) (withParents (now (parents .entry)) (withLevels (now (levels .entry)) (withShares (now (shares .entry)) (withNewest (now (newest .entry)) (withOldest (now (oldest .entry)) (withOwners (now (owners .entry)) (withTaken (now (taken .entry)) s))))))))))))))))) (now (heap .entry)) r (λ s. s) (now (heap .entry)) ⌝ }
 {
-    let k = s.kinds;
-    let f = s.frames;
-    let g = s.regions;
-    let p = s.pages;
+    let n = *names;
+    names_shaped(n);
+    let mut c = *shares;
+    regions::shares_shaped(c);
     let mut heads = [0; 16384];
-    let mut c = g.shares;
     let sound = passes(
         &mut heads,
         &mut c,
         heap,
-        k.declared,
-        &k.sizes,
-        &k.marks,
-        f.standing,
-        f.counted,
-        &f.widths,
-        &f.slots,
-        g.given,
-        &g.names,
-        &g.parents,
-        &g.levels,
-        &g.newest,
-        &g.oldest,
-        p.made,
-        &p.owners,
-        &p.taken,
+        declared,
+        sizes,
+        marks,
+        standing,
+        counted,
+        widths,
+        slots,
+        given,
+        names,
+        parents,
+        levels,
+        newest,
+        oldest,
+        made,
+        owners,
+        taken,
     );
-    shapes::state_shaped(s);
     if sound {
         return checks::gives(1, 0, 0, 0);
     }

@@ -1,6 +1,6 @@
 -- The tests and the state left are those of the call's outcome.
 -- Assumes nothing.
-use mathlib.Core.Path.{_≡_, refl, sym, ap, _∙_, fun-ext}
+use mathlib.Core.Path.{_≡_, refl, sym, ap, _∙_, subst⁻¹, fun-ext}
 use mathlib.Core.Bool.{Bool, not, _||_}
 use mathlib.Core.List.{List, [], _∷_}
 use Prim.Native.Nat.{ℕ, _+_, _<_}
@@ -11,7 +11,7 @@ use borrow.Author.Tests.{ltb-true, ltb-false, le-leb, lt-leb}
 use Rattle.lists.specs.Ticks.{tickAt, ticked}
 use Rattle.lists.specs.Laws.Tests.{by-test}
 use Rattle.lists.specs.Laws.Ticks.{blank-ticked}
-use Rattle.lists.specs.Lists.{among}
+use Rattle.lists.specs.Lists.{countOf, upTo, among}
 use Rattle.lists.specs.Laws.Kept.{among-alone, repeats-once}
 use Rattle.model.specs.Model.{Answer, delete, gives}
 use Rattle.model.specs.Calls.{reason, _yields_, noFiller}
@@ -20,11 +20,12 @@ use Rattle.regions.specs.Regions.{entryIn, entryOf, tagOf, isLive, subregionsIn
 use Rattle.regions.specs.Laws.Entries.{entry-most}
 use Rattle.regions.specs.Laws.Counts.{Shares}
 use Rattle.regions.specs.Laws.Steps.{enterings}
-use Rattle.pages.specs.Pages.{wrongLength, pagesWith}
+use Rattle.pages.specs.Pages.{wrongLength, pageCountIn, pagesWith, pagesIn}
 use Rattle.outcomes.specs.Store.{Store, frames, kinds, regions, pages, ledAmongIn, ledIn, ledInto}
 use Rattle.outcomes.specs.Outcome.{Outcome, Accepted, badLength, dead, checks, refusal, newlyIn}
 use Rattle.outcomes.specs.Apart.{Scans, GivesBack, named}
 use Rattle.outcomes.specs.Laws.Steps.{reason-append, by-effect}
+use Rattle.outcomes.specs.Laws.Apart.{mine}
 use Rattle.outcomes.specs.Laws.Deleted.{code-number, code-deleted}
 use Rattle.checks.specs.Checks.{firstRefusal, fillerTests}
 use Rattle.checks.specs.Laws.Tests.{first-zero, filler-passed}
@@ -58,24 +59,30 @@ module _ (S : Store) (r f : ℕ) where
     unfolding ticked
     ticks-are = fun-ext (λ t. rw ticks (blank-ticked 256 ((e + 1) ∷ []) t (omega (arith, found, entry-most ((regions S) .names) r), tt)))
 
+    ticks-one : tickAt ms ≡ (λ t. eqb t (e + 1))
+    ticks-one = ticks-are ∙ fun-ext (λ t. among-alone t (e + 1))
+
     pub delete-second : refusal S (delete r f) ≡ g
-    delete-second = delete-refused ∙ sym (asked ∙ rw (ticks-are ∙ fun-ext (λ t. among-alone t (e + 1)), found))
+    delete-second = delete-refused ∙ sym (asked ∙ rw (ticks-one, found))
 
     ticks-named : tickAt ms ≡ named S (r ∷ [])
     unfolding tagOf entryOf
     ticks-named = ticks-are ∙ rw found
 
-    -- and where the tests accept, cs the shares once the region is scanned, ds with the frames entered, os and k the owners and the number of pages given back
-    pub delete-effect : (a : Answer) (T : Store) (cs ds os : List ℕ) (k : ℕ) → g ≡ 0 → a ≡ gives (k ∷ []) → Shares ((regions S) .shares) → length ((pages S) .owners) ≡ 256
-        → (f < 4 → Scans f (kinds S) (S .heap) (pages S) (tickAt ms) ((regions S) .shares) cs)
+    -- and where the tests accept, h is the number of the region's pages, cs the shares once it is scanned, ds with the frames entered, os the owners once its pages are given back
+    pub delete-effect : (a : Answer) (T : Store) (h : ℕ) (cs ds os : List ℕ) → g ≡ 0 → a ≡ gives (h ∷ []) → Shares ((regions S) .shares) → length ((pages S) .owners) ≡ 256
+        → h ≡ pagesIn ((pages S) .made) ((pages S) .owners) (e + 1)
+        → (f < 4 → h ≡ countOf (mine ((pages S) .owners) (tickAt ms)) (upTo (pageCountIn ((pages S) .made))) → Scans f (kinds S) (S .heap) (pages S) (tickAt ms) ((regions S) .shares) cs)
         → let fs = frames S in ds ≡ enterings f cs (newlyIn (fs .standing) (fs .counted) (fs .widths) (fs .slots) ((pages S) .owners))
-        → GivesBack ((pages S) .made) ((pages S) .owners) (tickAt ms) os k
+        → GivesBack ((pages S) .made) ((pages S) .owners) (λ t. eqb t (e + 1)) os (pagesIn ((pages S) .made) ((pages S) .owners) (e + 1))
         → frames T ≡ raised fs → kinds T ≡ kinds S → regions T ≡ withoutRegions (withShares (regions S) ds) (e ∷ []) → pages T ≡ pagesWith ((pages S) .made) os ((pages S) .taken) → T .heap ≡ S .heap
         → Outcome (delete r f) S a T
-    unfolding Accepted entryOf
-    delete-effect a T cs ds os k z p fits long scans enters back ef en er ep eh =
+    unfolding Accepted entryOf pagesIn
+    delete-effect a T h cs ds os z p fits long counts scans enters back ef en er ep eh =
         let once = repeats-once (tagOf (regions S) r ∷ []) refl in
         let few = filler-passed ((pages S) .made) (length (S .heap)) f (first-zero _ _ (sym asked ∙ z)) in
-        let number = code-number f S (r ∷ []) once few fits long (tickAt ms) ticks-named cs ds os k (scans few) enters back in
+        let scanned = scans few (counts ∙ ap (λ m. countOf (mine ((pages S) .owners) m) (upTo (pageCountIn ((pages S) .made)))) (sym ticks-one)) in
+        let given = subst⁻¹ (λ m. GivesBack ((pages S) .made) ((pages S) .owners) m os (pagesIn ((pages S) .made) ((pages S) .owners) (e + 1))) ticks-one back in
+        let number = code-number f S (r ∷ []) once few fits long (tickAt ms) ticks-named cs ds os _ scanned enters given in
         by-effect (delete r f) S a T (delete-second ∙ z)
-        (p ∙ ap (λ n. gives (n ∷ [])) (number ∙ omega arith), code-deleted f S (r ∷ []) once few fits long (tickAt ms) ticks-named cs ds os k (scans few) enters back T ef en (er ∙ rw found) ep eh)
+        (p ∙ ap (λ n. gives (n ∷ [])) (counts ∙ number ∙ omega arith), code-deleted f S (r ∷ []) once few fits long (tickAt ms) ticks-named cs ds os _ scanned enters given T ef en (er ∙ rw found) ep eh)

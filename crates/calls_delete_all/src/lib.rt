@@ -1,12 +1,11 @@
 // The call delete_all: regions that go together. 19 comes after the scan (source document 000, chapter 4.3.1, on an array of regions): a reference from member to member keeps none of them; what is left
 // of a count, or a slot, does.
-use state::Done;
-use state::State;
+use state::Reply;
 ghost use mathlib.Core.Path.{_≡_};
-ghost use mathlib.Core.List.{[], map};
+ghost use mathlib.Core.List.{map};
 ghost use Rattle.model.specs.Model.{deleteAll};
 ghost use Rattle.model.specs.Calls.{reason};
-ghost use Rattle.outcomes.specs.Outcome.{Outcome, answerOf, store};
+ghost use Rattle.lent.specs.Lent.{InPlace, withMade, withStanding, withCounted, withDeclared, withWidths, withSlots, withSizes, withMarks, withNames, withParents, withShares, withOwners, withTaken};
 ghost use Rattle.lists.specs.Ticks.{tickAt, ticked};
 ghost use Rattle.members.specs.Members.{tagBy};
 ghost use Rattle.calls_delete_all.specs.DeleteAll.{listTests};
@@ -43,78 +42,61 @@ fn list_refusal<'a>(
 
 // Call 24 (document 02, card 2), for a filler (card 5): the regions named go together, with their objects and pages, or none of them does. The scan works on a copy of the shares, so that a refusal has
 // nothing to undo, and no page is given back before the call is accepted.
-pub fn delete_all(s: State, heap: &[u32], list: &[u32], filler: u32) -> Done
-    ensures { λ r. ⌜ Outcome (deleteAll (now (list .entry)) filler) (store s (now (heap .entry))) (answerOf (r .reply) []) (store (r .state) (now (heap .entry))) ⌝ }
+pub fn delete_all_in<'a>(
+    made: u32,
+    standing: u32,
+    counted: &mut u32,
+    declared: u32,
+    widths: &'a [u8; 32],
+    slots: &'a [u32; 256],
+    sizes: &'a [u8; 16],
+    marks: &'a [u8; 256],
+    names: &mut [u32; 64],
+    parents: &'a [u8; 64],
+    shares: &mut [u32; 256],
+    owners: &mut [u8; 256],
+    taken: &'a [u8; 256],
+    heap: &[u32],
+    list: &'a [u32],
+    filler: u32,
+) -> Reply
+    ensures { λ r. ⌜ InPlace (deleteAll (now (list .entry)) filler) (λ s. withMade made (withStanding standing (withCounted (now (counted .entry)) (withDeclared declared (withWidths (now (widths .entry)) (withSlots (now (slots .entry)) (withSizes (now (sizes .entry)) (withMarks (now (marks .entry)) (withNames (now (names .entry)) (withParents (now (parents .entry)) (withShares (now (shares .entry)) (withOwners (now (owners .entry)) (withTaken (now (taken .entry)) s))))))))))))) (now (heap .entry)) r (λ s. withCounted (now (counted .exit)) (withNames (now (names .exit)) (withShares (now (shares .exit)) (withOwners (now (owners .exit)) s)))) (now (heap .entry)) ⌝ }
 {
-    let mut t = s;
-    let n = t.frames.standing;
-    let m = t.frames.counted;
+    let m = *counted;
     // a byte for each number that a page's owner can be
     let mut members = [0u8; 256];
-    let g = list_refusal(
-        t.pages.made,
-        heap.len(),
-        filler,
-        list,
-        &t.regions.names,
-        &t.regions.parents,
-        &mut members,
-    );
+    let g = list_refusal(made, heap.len(), filler, list, names, parents, &mut members);
     if g != 0 {
-        return Done {
-            state: t,
-            reply: checks::refused(g),
-        };
+        return checks::refused(g);
     }
+    let p = *owners;
+    apart::owners_shaped(p);
     // scanned, on a copy of the shares
-    regions::shares_shaped(t.regions.shares);
+    let before = *shares;
+    regions::shares_shaped(before);
     let mut c = apart::scan(
-        t.kinds.declared,
-        &t.kinds.sizes,
-        &t.kinds.marks,
+        declared,
+        sizes,
+        marks,
         heap,
-        t.pages.made,
-        &t.pages.owners,
-        &t.pages.taken,
+        made,
+        owners,
+        taken,
         &members,
-        t.regions.shares,
+        before,
         filler,
     );
     // the rest of the check
-    if joint_parts::pointed_at(
-        n,
-        m,
-        &t.frames.widths,
-        &t.frames.slots,
-        &t.pages.owners,
-        &c,
-        &members,
-    ) {
-        return Done {
-            state: t,
-            reply: checks::refused(19),
-        };
+    if joint_parts::pointed_at(standing, m, widths, slots, owners, &c, &members) {
+        return checks::refused(19);
     }
     // the frames that m is raised over enter the shares, by the owners before any page is given back
-    delete_parts::enter_frames(
-        n,
-        m,
-        &t.frames.widths,
-        &t.frames.slots,
-        &t.pages.owners,
-        &mut c,
-        filler,
-    );
+    delete_parts::enter_frames(standing, m, widths, slots, owners, &mut c, filler);
+    *shares = c;
     // given back
-    let number = apart::give_back(t.pages.made, &mut t.pages.owners, &members);
-    let mut r = t.regions;
-    r.shares = c;
-    t.regions = r;
-    joint_parts::give_up(&mut t.regions.names, &members);
-    let raised = frames::top(n);
-    t.frames.counted = raised;
-    Done {
-        state: t,
-        reply: checks::gives(number, 0, 0, 0),
-    }
+    let number = apart::give_back(made, owners, &members);
+    joint_parts::give_up(names, &members);
+    let raised = frames::top(standing);
+    *counted = raised;
+    checks::gives(number, 0, 0, 0)
 }

@@ -131,3 +131,12 @@ module _ (S : Store) (s w : ℕ) where
           let few = filler-passed ((pages S) .made) (length (S .heap)) f (first-zero (filler S s f) (reason (top S s u)) (sym first ∙ passed)) in
           by-effect (setPointer s w u f) S a T (set-second ∙ z)
           (p, h ∙ set-leaves v x f out into cs words few fits r (l ∙ rw read) (e ∙ rw read) c d ∙ ap₂ (λ v x. pointed S v w x f) led valued)
+
+-- the tests on the object and the mark, made one after the other, with what they read read before
+pub set-asked : (names parents levels : List ℕ) (A h m m' own own' x new new' : ℕ) (r b : Bool) → h ≡ A → h ≡ 0 → m ≡ m' → own ≡ own' → new ≡ new' → r ≡ breaksIn names parents levels m own x new → r ≡ b
+    → pick b 17 0 ≡ firstRefusal A (reason (breaksIn names parents levels m' own' x new' yields 17 ∷ []))
+set-asked names parents levels A h m m' own own' x new new' r true p z em eo en e k = rw (← p, z, ← em, ← eo, ← en, ← e, k)
+set-asked names parents levels A h m m' own own' x new new' r false p z em eo en e k = rw (← p, z, ← em, ← eo, ← en, ← e, k)
+
+pub tag-is : (m m' own own' t t' r : ℕ) → m ≡ m' → own ≡ own' → t ≡ t' → r ≡ countedTag m own t → r ≡ countedTag m' own' t'
+tag-is m m' own own' t t' r em eo et e = rw (← em, ← eo, ← et) e

@@ -1,11 +1,9 @@
 // The calls that make regions (document 01's calls 3 and 4).
-use state::Done;
-use state::State;
+use state::Reply;
 ghost use mathlib.Core.Path.{_≡_};
-ghost use mathlib.Core.List.{[]};
 ghost use Rattle.model.specs.Model.{newRegion, subregion};
 ghost use Rattle.model.specs.Calls.{reason};
-ghost use Rattle.outcomes.specs.Outcome.{Outcome, answerOf, store};
+ghost use Rattle.lent.specs.Lent.{InPlace, withMade, withGiven, withNames, withParents, withLevels, withShares, withNewest, withOldest};
 ghost use Rattle.calls_regions.specs.Tests.{moreTests, newTests, subregionTests};
 
 // 4 and 5, for one region more.
@@ -55,67 +53,67 @@ fn subregion_refusal<'a>(
 }
 
 // Document 01's call 3: a region with none above it.
-pub fn new_region(s: State, heap: &[u32]) -> Done
-    ensures { λ r. ⌜ Outcome newRegion (store s (now (heap .entry))) (answerOf (r .reply) []) (store (r .state) (now (heap .entry))) ⌝ }
+pub fn new_region_in(
+    made: u32,
+    given: &mut u32,
+    names: &mut [u32; 64],
+    parents: &mut [u8; 64],
+    levels: &mut [u8; 64],
+    shares: &mut [u32; 256],
+    newest: &mut [u16; 64],
+    oldest: &mut [u32; 64],
+    heap: &[u32],
+) -> Reply
+    ensures { λ r. ⌜ InPlace newRegion (λ s. withMade made (withGiven (now (given .entry)) (withNames (now (names .entry)) (withParents (now (parents .entry)) (withLevels (now (levels .entry)) (withShares (now (shares .entry)) (withNewest (now (newest .entry)) (withOldest (now (oldest .entry)) s)))))))) (now (heap .entry)) r (λ s. withGiven (now (given .exit)) (withNames (now (names .exit)) (withParents (now (parents .exit)) (withLevels (now (levels .exit)) (withShares (now (shares .exit)) (withNewest (now (newest .exit)) (withOldest (now (oldest .exit)) s))))))) (now (heap .entry)) ⌝ }
 {
-    let mut t = s;
-    let given = t.regions.given;
-    let g = new_refusal(t.pages.made, heap.len(), &t.regions.names, given);
+    let last = *given;
+    let g = new_refusal(made, heap.len(), names, last);
     if g != 0 {
-        return Done {
-            state: t,
-            reply: checks::refused(g),
-        };
+        return checks::refused(g);
     }
-    let name = given + 1;
-    let i = regions::unused(&t.regions.names);
-    t.regions.given = name;
-    regions::put_word(&mut t.regions.names, i, name);
-    regions::put_byte(&mut t.regions.parents, i, 0);
-    regions::put_byte(&mut t.regions.levels, i, 1);
-    regions::clear_shares(&mut t.regions.shares, i);
-    regions::put_half(&mut t.regions.newest, i, 0);
-    regions::put_word(&mut t.regions.oldest, i, 0);
-    Done {
-        state: t,
-        reply: checks::gives(name, 0, 0, 0),
-    }
+    let name = last + 1;
+    let i = regions::unused(names);
+    regions::put_word(names, i, name);
+    regions::put_byte(parents, i, 0);
+    regions::put_byte(levels, i, 1);
+    regions::clear_shares(shares, i);
+    regions::put_half(newest, i, 0);
+    regions::put_word(oldest, i, 0);
+    *given = name;
+    checks::gives(name, 0, 0, 0)
 }
 
 // Document 01's call 4: a region below the one named `above`.
-pub fn subregion(s: State, heap: &[u32], above: u32) -> Done
-    ensures { λ r. ⌜ Outcome (subregion above) (store s (now (heap .entry))) (answerOf (r .reply) []) (store (r .state) (now (heap .entry))) ⌝ }
+pub fn subregion_in(
+    made: u32,
+    given: &mut u32,
+    names: &mut [u32; 64],
+    parents: &mut [u8; 64],
+    levels: &mut [u8; 64],
+    shares: &mut [u32; 256],
+    newest: &mut [u16; 64],
+    oldest: &mut [u32; 64],
+    heap: &[u32],
+    above: u32,
+) -> Reply
+    ensures { λ r. ⌜ InPlace (subregion above) (λ s. withMade made (withGiven (now (given .entry)) (withNames (now (names .entry)) (withParents (now (parents .entry)) (withLevels (now (levels .entry)) (withShares (now (shares .entry)) (withNewest (now (newest .entry)) (withOldest (now (oldest .entry)) s)))))))) (now (heap .entry)) r (λ s. withGiven (now (given .exit)) (withNames (now (names .exit)) (withParents (now (parents .exit)) (withLevels (now (levels .exit)) (withShares (now (shares .exit)) (withNewest (now (newest .exit)) (withOldest (now (oldest .exit)) s))))))) (now (heap .entry)) ⌝ }
 {
-    let mut t = s;
-    let given = t.regions.given;
-    let e = regions::entry_of(&t.regions.names, above);
-    let g = subregion_refusal(
-        t.pages.made,
-        heap.len(),
-        &t.regions.names,
-        &t.regions.levels,
-        given,
-        e,
-    );
+    let last = *given;
+    let e = regions::entry_of(names, above);
+    let g = subregion_refusal(made, heap.len(), names, levels, last, e);
     if g != 0 {
-        return Done {
-            state: t,
-            reply: checks::refused(g),
-        };
+        return checks::refused(g);
     }
-    let next = given + 1;
+    let next = last + 1;
     let tag = (e + 1) as u8;
-    let level = (regions::level_at(&t.regions.levels, e) + 1) as u8;
-    let at = regions::unused(&t.regions.names);
-    t.regions.given = next;
-    regions::put_word(&mut t.regions.names, at, next);
-    regions::put_byte(&mut t.regions.parents, at, tag);
-    regions::put_byte(&mut t.regions.levels, at, level);
-    regions::clear_shares(&mut t.regions.shares, at);
-    regions::put_half(&mut t.regions.newest, at, 0);
-    regions::put_word(&mut t.regions.oldest, at, 0);
-    Done {
-        state: t,
-        reply: checks::gives(next, 0, 0, 0),
-    }
+    let level = (regions::level_at(levels, e) + 1) as u8;
+    let at = regions::unused(names);
+    regions::put_word(names, at, next);
+    regions::put_byte(parents, at, tag);
+    regions::put_byte(levels, at, level);
+    regions::clear_shares(shares, at);
+    regions::put_half(newest, at, 0);
+    regions::put_word(oldest, at, 0);
+    *given = next;
+    checks::gives(next, 0, 0, 0)
 }

@@ -1,96 +1,92 @@
-// The calls that fill or clear slots of the top frame: first, copy, fetch and clear (document 01's calls 9 to 12).
-use state::Done;
-use state::State;
-ghost use mathlib.Core.List.{[]};
+// The calls that fill or clear slots of the top frame: first, copy, fetch and clear (document 01's calls 9 to 12). Each stands once, in place, on what is lent of the state, and by value over that.
+use state::Reply;
 ghost use Rattle.model.specs.Model.{first, copy, fetch, clear};
-ghost use Rattle.outcomes.specs.Outcome.{Outcome, answerOf, store};
+ghost use Rattle.lent.specs.Lent.{InPlace, withMade, withStanding, withWidths, withSlots, withNames, withOldest};
 
 // Document 01's call 9: puts the oldest object of the region in the slot.
-pub fn first(s: State, heap: &[u32], slot: u32, region: u32) -> Done
-    ensures { λ r. ⌜ Outcome (first slot region) (store s (now (heap .entry))) (answerOf (r .reply) []) (store (r .state) (now (heap .entry))) ⌝ }
+pub fn first_in(
+    made: u32,
+    standing: u32,
+    widths: &[u8; 32],
+    slots: &mut [u32; 256],
+    names: &[u32; 64],
+    oldest: &[u32; 64],
+    heap: &[u32],
+    slot: u32,
+    region: u32,
+) -> Reply
+    ensures { λ r. ⌜ InPlace (first slot region) (λ s. withMade made (withStanding standing (withWidths (now (widths .entry)) (withSlots (now (slots .entry)) (withNames (now (names .entry)) (withOldest (now (oldest .entry)) s)))))) (now (heap .entry)) r (withSlots (now (slots .exit))) (now (heap .entry)) ⌝ }
 {
-    let mut t = s;
-    let n = t.frames.standing;
-    let g = checks::top_refusal(t.pages.made, heap.len(), n, &t.frames.widths, slot, slot);
+    let g = checks::top_refusal(made, heap.len(), standing, widths, slot, slot);
     if g != 0 {
-        return Done {
-            state: t,
-            reply: checks::refused(g),
-        };
+        return checks::refused(g);
     }
-    let i = regions::entry_of(&t.regions.names, region);
+    let i = regions::entry_of(names, region);
     if 64 <= i {
-        return Done {
-            state: t,
-            reply: checks::refused(2),
-        };
+        return checks::refused(2);
     }
-    let v = regions::oldest_at(&t.regions.oldest, i);
-    frames::put_slot(&mut t.frames.slots, frames::top(n), slot, v);
-    Done {
-        state: t,
-        reply: checks::gives(0, 0, 0, 0),
-    }
+    let v = regions::oldest_at(oldest, i);
+    frames::put_slot(slots, frames::top(standing), slot, v);
+    checks::gives(0, 0, 0, 0)
 }
 
 // Document 01's call 10: slot `to` gets what slot `from` holds.
-pub fn copy(s: State, heap: &[u32], from: u32, to: u32) -> Done
-    ensures { λ r. ⌜ Outcome (copy from to) (store s (now (heap .entry))) (answerOf (r .reply) []) (store (r .state) (now (heap .entry))) ⌝ }
+pub fn copy_in(
+    made: u32,
+    standing: u32,
+    widths: &[u8; 32],
+    slots: &mut [u32; 256],
+    heap: &[u32],
+    from: u32,
+    to: u32,
+) -> Reply
+    ensures { λ r. ⌜ InPlace (copy from to) (λ s. withMade made (withStanding standing (withWidths (now (widths .entry)) (withSlots (now (slots .entry)) s)))) (now (heap .entry)) r (withSlots (now (slots .exit))) (now (heap .entry)) ⌝ }
 {
-    let mut t = s;
-    let n = t.frames.standing;
-    let g = checks::top_refusal(t.pages.made, heap.len(), n, &t.frames.widths, from, to);
+    let g = checks::top_refusal(made, heap.len(), standing, widths, from, to);
     if g != 0 {
-        return Done {
-            state: t,
-            reply: checks::refused(g),
-        };
+        return checks::refused(g);
     }
-    let v = checks::top_slot(n, &t.frames.slots, from);
-    frames::put_slot(&mut t.frames.slots, frames::top(n), to, v);
-    Done {
-        state: t,
-        reply: checks::gives(0, 0, 0, 0),
-    }
+    let v = checks::top_slot(standing, slots, from);
+    frames::put_slot(slots, frames::top(standing), to, v);
+    checks::gives(0, 0, 0, 0)
 }
 
 // Document 01's call 11: slot `to` gets what slot `from` of the frame beneath holds.
-pub fn fetch(s: State, heap: &[u32], from: u32, to: u32) -> Done
-    ensures { λ r. ⌜ Outcome (fetch from to) (store s (now (heap .entry))) (answerOf (r .reply) []) (store (r .state) (now (heap .entry))) ⌝ }
+pub fn fetch_in(
+    made: u32,
+    standing: u32,
+    widths: &[u8; 32],
+    slots: &mut [u32; 256],
+    heap: &[u32],
+    from: u32,
+    to: u32,
+) -> Reply
+    ensures { λ r. ⌜ InPlace (fetch from to) (λ s. withMade made (withStanding standing (withWidths (now (widths .entry)) (withSlots (now (slots .entry)) s)))) (now (heap .entry)) r (withSlots (now (slots .exit))) (now (heap .entry)) ⌝ }
 {
-    let mut t = s;
-    let n = t.frames.standing;
-    let g = checks::beneath_refusal(t.pages.made, heap.len(), n, &t.frames.widths, to, from);
+    let g = checks::beneath_refusal(made, heap.len(), standing, widths, to, from);
     if g != 0 {
-        return Done {
-            state: t,
-            reply: checks::refused(g),
-        };
+        return checks::refused(g);
     }
-    let v = checks::beneath_slot(n, &t.frames.slots, from);
-    frames::put_slot(&mut t.frames.slots, frames::top(n), to, v);
-    Done {
-        state: t,
-        reply: checks::gives(0, 0, 0, 0),
-    }
+    let v = checks::beneath_slot(standing, slots, from);
+    frames::put_slot(slots, frames::top(standing), to, v);
+    checks::gives(0, 0, 0, 0)
 }
 
 // Document 01's call 12: the slot becomes null.
-pub fn clear(s: State, heap: &[u32], slot: u32) -> Done
-    ensures { λ r. ⌜ Outcome (clear slot) (store s (now (heap .entry))) (answerOf (r .reply) []) (store (r .state) (now (heap .entry))) ⌝ }
+pub fn clear_in(
+    made: u32,
+    standing: u32,
+    widths: &[u8; 32],
+    slots: &mut [u32; 256],
+    heap: &[u32],
+    slot: u32,
+) -> Reply
+    ensures { λ r. ⌜ InPlace (clear slot) (λ s. withMade made (withStanding standing (withWidths (now (widths .entry)) (withSlots (now (slots .entry)) s)))) (now (heap .entry)) r (withSlots (now (slots .exit))) (now (heap .entry)) ⌝ }
 {
-    let mut t = s;
-    let n = t.frames.standing;
-    let g = checks::top_refusal(t.pages.made, heap.len(), n, &t.frames.widths, slot, slot);
+    let g = checks::top_refusal(made, heap.len(), standing, widths, slot, slot);
     if g != 0 {
-        return Done {
-            state: t,
-            reply: checks::refused(g),
-        };
+        return checks::refused(g);
     }
-    frames::put_slot(&mut t.frames.slots, frames::top(n), slot, 0);
-    Done {
-        state: t,
-        reply: checks::gives(0, 0, 0, 0),
-    }
+    frames::put_slot(slots, frames::top(standing), slot, 0);
+    checks::gives(0, 0, 0, 0)
 }

@@ -1,6 +1,5 @@
 // The calls on the stack of frames: push, drop, hand_back.
-use state::Done;
-use state::State;
+use state::Reply;
 ghost use mathlib.Core.Path.{_≡_};
 ghost use mathlib.Core.List.{[]};
 ghost use Prim.Native.Nat.{_-_};
@@ -10,8 +9,8 @@ ghost use Rattle.model.specs.Calls.{reason};
 ghost use Rattle.frames.specs.Frames.{topIn, uncountsIn};
 ghost use Rattle.regions.specs.Laws.Steps.{leavings};
 ghost use Rattle.outcomes.specs.Store.{targetsIn};
-ghost use Rattle.outcomes.specs.Outcome.{Outcome, answerOf, store};
 ghost use Rattle.checks.specs.Checks.{firstRefusal, fillerTests, beneathTests};
+ghost use Rattle.lent.specs.Lent.{InPlace, withMade, withStanding, withCounted, withWidths, withSlots, withShares, withOwners};
 ghost use Rattle.calls_stack.specs.Stack.{pushTests, dropTests};
 
 fn push_refusal(made: u32, n: usize, standing: u32, slots: u32) -> u32
@@ -33,26 +32,26 @@ fn push_refusal(made: u32, n: usize, standing: u32, slots: u32) -> u32
 }
 
 // Document 01's call 5: a frame of null slots on top.
-pub fn push(s: State, heap: &[u32], slots: u32) -> Done
-    ensures { λ r. ⌜ Outcome (push slots) (store s (now (heap .entry))) (answerOf (r .reply) []) (store (r .state) (now (heap .entry))) ⌝ }
+pub fn push_in(
+    made: u32,
+    standing: &mut u32,
+    widths: &mut [u8; 32],
+    slots: &mut [u32; 256],
+    heap: &[u32],
+    size: u32,
+) -> Reply
+    ensures { λ r. ⌜ InPlace (push size) (λ s. withMade made (withStanding (now (standing .entry)) (withWidths (now (widths .entry)) (withSlots (now (slots .entry)) s)))) (now (heap .entry)) r (λ s. withStanding (now (standing .exit)) (withWidths (now (widths .exit)) (withSlots (now (slots .exit)) s))) (now (heap .entry)) ⌝ }
 {
-    let mut t = s;
-    let n = t.frames.standing;
-    let g = push_refusal(t.pages.made, heap.len(), n, slots);
+    let n = *standing;
+    let g = push_refusal(made, heap.len(), n, size);
     if g != 0 {
-        return Done {
-            state: t,
-            reply: checks::refused(g),
-        };
+        return checks::refused(g);
     }
-    frames::put_width(&mut t.frames.widths, n, (slots % 256) as u8);
-    frames::null_frame(&mut t.frames.slots, n);
+    frames::put_width(widths, n, (size % 256) as u8);
+    frames::null_frame(slots, n);
     let more = n + 1;
-    t.frames.standing = more;
-    Done {
-        state: t,
-        reply: checks::gives(more, 0, 0, 0),
-    }
+    *standing = more;
+    checks::gives(more, 0, 0, 0)
 }
 
 // The shares once the top frame goes: if the frame then on top was counted, its pointers leave them, by that filler.
@@ -91,38 +90,32 @@ fn drop_refusal(made: u32, n: usize, filler: u32, standing: u32) -> u32
 }
 
 // Document 01's call 6, for a filler (document 02, card 5): the top frame goes.
-pub fn drop(s: State, heap: &[u32], filler: u32) -> Done
-    ensures { λ r. ⌜ Outcome (dropFrame filler) (store s (now (heap .entry))) (answerOf (r .reply) []) (store (r .state) (now (heap .entry))) ⌝ }
+pub fn drop_in<'a>(
+    made: u32,
+    standing: &mut u32,
+    counted: &mut u32,
+    widths: &'a [u8; 32],
+    slots: &'a [u32; 256],
+    shares: &mut [u32; 256],
+    owners: &'a [u8; 256],
+    heap: &[u32],
+    filler: u32,
+) -> Reply
+    ensures { λ r. ⌜ InPlace (dropFrame filler) (λ s. withMade made (withStanding (now (standing .entry)) (withCounted (now (counted .entry)) (withWidths (now (widths .entry)) (withSlots (now (slots .entry)) (withShares (now (shares .entry)) (withOwners (now (owners .entry)) s))))))) (now (heap .entry)) r (λ s. withStanding (now (standing .exit)) (withCounted (now (counted .exit)) (withShares (now (shares .exit)) s))) (now (heap .entry)) ⌝ }
 {
-    let mut t = s;
-    let n = t.frames.standing;
-    let g = drop_refusal(t.pages.made, heap.len(), filler, n);
+    let n = *standing;
+    let m = *counted;
+    let g = drop_refusal(made, heap.len(), filler, n);
     if g != 0 {
-        return Done {
-            state: t,
-            reply: checks::refused(g),
-        };
+        return checks::refused(g);
     }
-    let m = t.frames.counted;
-    regions::shares_shaped(t.regions.shares);
-    let f = t.frames;
-    let p = t.pages;
-    uncount_top(
-        n,
-        m,
-        &f.widths,
-        &f.slots,
-        &p.owners,
-        &mut t.regions.shares,
-        filler,
-    );
-    t.frames.counted = frames::counted_after(n, m);
+    let c = *shares;
+    regions::shares_shaped(c);
+    uncount_top(n, m, widths, slots, owners, shares, filler);
+    *counted = frames::counted_after(n, m);
     let below = frames::top(n);
-    t.frames.standing = below;
-    Done {
-        state: t,
-        reply: checks::gives(below, 0, 0, 0),
-    }
+    *standing = below;
+    checks::gives(below, 0, 0, 0)
 }
 
 // 21 and 23, then 6 and 9.
@@ -145,46 +138,34 @@ fn hand_refusal(
 }
 
 // Document 01's call 7, for a filler (document 02, card 5): the value goes into a slot of the frame beneath, after the top frame has gone.
-pub fn hand_back(s: State, heap: &[u32], slot: u32, beneath: u32, filler: u32) -> Done
-    ensures { λ r. ⌜ Outcome (handBack slot beneath filler) (store s (now (heap .entry))) (answerOf (r .reply) []) (store (r .state) (now (heap .entry))) ⌝ }
+pub fn hand_back_in<'a>(
+    made: u32,
+    standing: &mut u32,
+    counted: &mut u32,
+    widths: &'a [u8; 32],
+    slots: &mut [u32; 256],
+    shares: &mut [u32; 256],
+    owners: &'a [u8; 256],
+    heap: &[u32],
+    slot: u32,
+    beneath: u32,
+    filler: u32,
+) -> Reply
+    ensures { λ r. ⌜ InPlace (handBack slot beneath filler) (λ s. withMade made (withStanding (now (standing .entry)) (withCounted (now (counted .entry)) (withWidths (now (widths .entry)) (withSlots (now (slots .entry)) (withShares (now (shares .entry)) (withOwners (now (owners .entry)) s))))))) (now (heap .entry)) r (λ s. withStanding (now (standing .exit)) (withCounted (now (counted .exit)) (withSlots (now (slots .exit)) (withShares (now (shares .exit)) s)))) (now (heap .entry)) ⌝ }
 {
-    let mut t = s;
-    let n = t.frames.standing;
-    let g = hand_refusal(
-        t.pages.made,
-        heap.len(),
-        filler,
-        n,
-        &t.frames.widths,
-        slot,
-        beneath,
-    );
+    let n = *standing;
+    let m = *counted;
+    let g = hand_refusal(made, heap.len(), filler, n, widths, slot, beneath);
     if g != 0 {
-        return Done {
-            state: t,
-            reply: checks::refused(g),
-        };
+        return checks::refused(g);
     }
-    let v = checks::top_slot(n, &t.frames.slots, slot);
-    let m = t.frames.counted;
-    regions::shares_shaped(t.regions.shares);
-    let f = t.frames;
-    let p = t.pages;
-    uncount_top(
-        n,
-        m,
-        &f.widths,
-        &f.slots,
-        &p.owners,
-        &mut t.regions.shares,
-        filler,
-    );
-    t.frames.counted = frames::counted_after(n, m);
+    let v = checks::top_slot(n, slots, slot);
+    let c = *shares;
+    regions::shares_shaped(c);
+    uncount_top(n, m, widths, slots, owners, shares, filler);
+    *counted = frames::counted_after(n, m);
     let below = frames::top(n);
-    t.frames.standing = below;
-    frames::put_slot(&mut t.frames.slots, frames::top(below), beneath, v);
-    Done {
-        state: t,
-        reply: checks::gives(below, 0, 0, 0),
-    }
+    *standing = below;
+    frames::put_slot(slots, frames::top(below), beneath, v);
+    checks::gives(below, 0, 0, 0)
 }

@@ -2,10 +2,13 @@
 use mathlib.Core.Path.{_≡_, refl, sym, ap, _∙_}
 use mathlib.Core.Bool.{not}
 use mathlib.Core.List.{List, [], _∷_}
-use Prim.Native.Nat.{ℕ, _+_, _-_, min}
+use Prim.Native.Nat.{ℕ, zero, suc, _+_, _-_, _≤_, min}
+use native.Mathlib.Omega.{arith}
 use lib.Dec.{eqb}
 use lib.ListN.{length, take, drop}
-use Rattle.lists.specs.Laws.Parts.{part-cut}
+use borrow.Author.Tests.{ne-eqb}
+use Rattle.lists.specs.Lists.{pick}
+use Rattle.lists.specs.Laws.Parts.{part-taken}
 use Rattle.model.specs.Model.{Answer, put, get, view, gives}
 use Rattle.model.specs.Calls.{reason, _yields_}
 use Rattle.frames.specs.Frames.{slotAt, topFrame}
@@ -15,12 +18,20 @@ use Rattle.objects.specs.Objects.{kindOf, wordCount}
 use Rattle.objects.specs.Parts.{objectOf, headerIn, wordIn}
 use Rattle.objects.specs.Laws.Words.{object-header}
 use Rattle.outcomes.specs.Store.{Store, frames, kinds, pages, slot}
-use Rattle.outcomes.specs.Outcome.{Outcome, Accepted, refusal, checks, noWord, isData, allData, writeWord, viewAnswer}
-use Rattle.outcomes.specs.Laws.Steps.{by-effect}
+use Rattle.outcomes.specs.Outcome.{Outcome, Accepted, refusal, checks, noWord, isData, allData, writeWord}
+use Rattle.outcomes.specs.Laws.Steps.{by-refusal, by-effect}
 use Rattle.checks.specs.Checks.{firstRefusal}
 use Rattle.checks.specs.Laws.Tests.{top, one-slot, else-next}
 use Rattle.checks.specs.Laws.Words.{inSlot, object, tested, word-read}
 use Rattle.calls_words.specs.Words.{dataRefusal, viewRefusal}
+use Rattle.calls_words.specs.Views.{ViewedAs}
+
+-- a part of at most k words from v on by its place and its length, both 0 where it has none
+placed : (heap : List ℕ) (k v c p : ℕ) → c ≡ min k (length heap - v) → p ≡ pick (eqb c 0) 0 v → (p + c ≤ length heap) × (take c (drop p heap) ≡ take k (drop v heap))
+placed heap k v zero p e a = (omega (arith, a), part-taken heap v k zero e)
+placed heap k v (suc n) p e a =
+    let at : p ≡ v = rw (ne-eqb (suc n) 0 (λ z. omega arith)) at a in
+    (omega (arith, at, e), rw at (part-taken heap v k (suc n) e))
 
 module _ (S : Store) (s : ℕ) where
   pub get-tests : (w : ℕ) → refusal S (get s w) ≡ firstRefusal (reason (top S s s)) (dataRefusal ((kinds S) .declared) ((kinds S) .sizes) ((kinds S) .marks) (object S s) (inSlot S s) w)
@@ -59,9 +70,13 @@ module _ (S : Store) (s : ℕ) where
       pub view-second : refusal S (view s) ≡ g
       view-second = view-tests ∙ sym (asked ∙ rw (sized, kinded, read, led))
 
-      -- and a and c: where the object's words begin, and how many there are
-      pub view-effect : g ≡ 0 → (a c : ℕ) → a ≡ min v (length (S .heap)) → c ≡ min m (length (S .heap) - v) → Outcome (view s) S (viewAnswer S s (take (a + c - a) (drop a (S .heap)))) S
+      pub view-refused : (g ≡ 0 → ⊥) → ViewedAs s S (record { refusal = g; place = 0; count = 0 })
+      view-refused z = (sym view-second, refl, omega arith, by-refusal (view s) S _ S _ refl (λ q. z (sym view-second ∙ q)) refl refl)
+
+      -- and c and p: how many words the object's part has, and where it begins
+      pub view-effect : g ≡ 0 → (c p : ℕ) → p ≡ pick (eqb c 0) 0 v → c ≡ min m (length (S .heap) - v) → ViewedAs s S (record { refusal = 0; place = p; count = c })
       unfolding Accepted slot slotAt topFrame wordCount sizeOf
-      view-effect z a c begins counted =
+      view-effect z c p begins counted =
           let e = view-second ∙ z in
-          by-effect (view s) S _ S e (rw (e, part-cut (S .heap) v m a c begins counted, sized, kinded, read, object-header (S .heap) v, led), refl)
+          let (within, same) = placed (S .heap) m v c p counted begins in
+          (sym e, begins ∙ ap (pick (eqb c 0) 0) led, within, by-effect (view s) S _ S e (rw (e, same, sized, kinded, read, object-header (S .heap) v, led), refl))

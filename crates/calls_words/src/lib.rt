@@ -1,11 +1,13 @@
 // The calls on an object's data: put, get, view.
+use lent::View;
 use state::Reply;
-use state::State;
 ghost use mathlib.Core.Path.{_≡_};
-ghost use mathlib.Core.List.{[]};
-ghost use Rattle.model.specs.Model.{put, get, view};
-ghost use Rattle.outcomes.specs.Outcome.{Outcome, answerOf, viewAnswer, store, refusal};
+ghost use lib.Dec.{eqb};
+ghost use Rattle.lists.specs.Lists.{pick};
+ghost use Rattle.model.specs.Model.{put, get};
+ghost use Rattle.lent.specs.Lent.{InPlace, withMade, withStanding, withWidths, withSlots, withDeclared, withSizes, withMarks};
 ghost use Rattle.calls_words.specs.Words.{dataRefusal, viewRefusal};
+ghost use Rattle.calls_words.specs.Views.{ViewedIn};
 
 // 14 and 15 for word w of the object that v leads to, and 16 unless the word is data.
 fn data_refusal<'a>(
@@ -29,18 +31,28 @@ fn data_refusal<'a>(
 }
 
 // Document 01's call 15: a data word gets the value. The state stays as it is.
-pub fn put(s: State, heap: &mut [u32], slot: u32, w: u32, value: u32) -> Reply
-    ensures { λ r. ⌜ Outcome (put slot w value) (store s (now (heap .entry))) (answerOf r []) (store s (now (heap .exit))) ⌝ }
+pub fn put_in<'a>(
+    made: u32,
+    standing: u32,
+    declared: u32,
+    widths: &[u8; 32],
+    slots: &[u32; 256],
+    sizes: &'a [u8; 16],
+    marks: &'a [u8; 256],
+    heap: &mut [u32],
+    slot: u32,
+    w: u32,
+    value: u32,
+) -> Reply
+    ensures { λ r. ⌜ InPlace (put slot w value) (λ s. withMade made (withStanding standing (withWidths (now (widths .entry)) (withSlots (now (slots .entry)) (withDeclared declared (withSizes (now (sizes .entry)) (withMarks (now (marks .entry)) s))))))) (now (heap .entry)) r (λ s. s) (now (heap .exit)) ⌝ }
 {
-    let f = s.frames;
-    let g = checks::top_refusal(s.pages.made, heap.len(), f.standing, &f.widths, slot, slot);
+    let g = checks::top_refusal(made, heap.len(), standing, widths, slot, slot);
     if g != 0 {
         return checks::refused(g);
     }
-    let v = checks::top_slot(f.standing, &f.slots, slot);
-    let k = s.kinds;
+    let v = checks::top_slot(standing, slots, slot);
     let object = objects::object_of(heap, v);
-    let h = data_refusal(k.declared, &k.sizes, &k.marks, object, v, w);
+    let h = data_refusal(declared, sizes, marks, object, v, w);
     if h != 0 {
         return checks::refused(h);
     }
@@ -49,18 +61,27 @@ pub fn put(s: State, heap: &mut [u32], slot: u32, w: u32, value: u32) -> Reply
 }
 
 // Document 01's call 16: what a data word holds.
-pub fn get(s: State, heap: &[u32], slot: u32, w: u32) -> Reply
-    ensures { λ r. ⌜ Outcome (get slot w) (store s (now (heap .entry))) (answerOf r []) (store s (now (heap .entry))) ⌝ }
+pub fn get_in<'a>(
+    made: u32,
+    standing: u32,
+    declared: u32,
+    widths: &[u8; 32],
+    slots: &[u32; 256],
+    sizes: &'a [u8; 16],
+    marks: &'a [u8; 256],
+    heap: &[u32],
+    slot: u32,
+    w: u32,
+) -> Reply
+    ensures { λ r. ⌜ InPlace (get slot w) (λ s. withMade made (withStanding standing (withWidths (now (widths .entry)) (withSlots (now (slots .entry)) (withDeclared declared (withSizes (now (sizes .entry)) (withMarks (now (marks .entry)) s))))))) (now (heap .entry)) r (λ s. s) (now (heap .entry)) ⌝ }
 {
-    let f = s.frames;
-    let g = checks::top_refusal(s.pages.made, heap.len(), f.standing, &f.widths, slot, slot);
+    let g = checks::top_refusal(made, heap.len(), standing, widths, slot, slot);
     if g != 0 {
         return checks::refused(g);
     }
-    let v = checks::top_slot(f.standing, &f.slots, slot);
-    let k = s.kinds;
+    let v = checks::top_slot(standing, slots, slot);
     let object = objects::object_of(heap, v);
-    let h = data_refusal(k.declared, &k.sizes, &k.marks, object, v, w);
+    let h = data_refusal(declared, sizes, marks, object, v, w);
     if h != 0 {
         return checks::refused(h);
     }
@@ -94,55 +115,43 @@ fn unseen(
     16
 }
 
-// View's check, beside view itself.
-pub fn view_refusal(s: State, heap: &[u32], slot: u32) -> u32
-    ensures { λ r. ⌜ r ≡ refusal (store s (now (heap .entry))) (view slot) ⌝ }
+// Where a part of so many words begins, of the object that v leads to.
+fn place_of(v: u32, count: u32) -> u32
+    ensures { λ r. ⌜ r ≡ pick (eqb count 0) 0 v ⌝ }
 {
-    let f = s.frames;
-    let k = s.kinds;
-    let v = checks::top_slot(f.standing, &f.slots, slot);
-    let kind = objects::kind_of(objects::object_of(heap, v));
-    let size = kinds::size_of(k.declared, &k.sizes, kind);
-    let n = heap.len();
-    unseen(
-        s.pages.made,
-        n,
-        f.standing,
-        &f.widths,
-        &k.marks,
-        kind,
-        size,
-        v,
-        slot,
-    )
+    if count == 0 { 0 } else { v }
 }
 
-// Document 01's call 17: the object's part of the heap itself, which begins at its word 0; empty where view_refusal refuses.
-pub fn view<'a>(s: State, heap: &'a [u32], slot: u32) -> &'a [u32]
-    ensures { λ r. ⌜ Outcome (view slot) (store s (now (heap .entry))) (viewAnswer (store s (now (heap .entry))) slot (now r)) (store s (now (heap .entry))) ⌝ }
+// Document 01's call 17: its check, and where the object's part of the heap lies, which begins at the object's word 0.
+pub fn view_in(
+    made: u32,
+    standing: u32,
+    declared: u32,
+    widths: &[u8; 32],
+    slots: &[u32; 256],
+    sizes: &[u8; 16],
+    marks: &[u8; 256],
+    heap: &[u32],
+    slot: u32,
+) -> View
+    ensures { λ v. ⌜ ViewedIn slot (λ s. withMade made (withStanding standing (withWidths (now (widths .entry)) (withSlots (now (slots .entry)) (withDeclared declared (withSizes (now (sizes .entry)) (withMarks (now (marks .entry)) s))))))) (now (heap .entry)) v ⌝ }
 {
-    let f = s.frames;
-    let sizes = s.kinds.sizes;
-    let marks = s.kinds.marks;
-    let v = checks::top_slot(f.standing, &f.slots, slot);
-    let kind = objects::kind_of(objects::object_of(heap, v));
-    let size = kinds::size_of(s.kinds.declared, &sizes, kind);
+    let at = checks::top_slot(standing, slots, slot);
+    let kind = objects::kind_of(objects::object_of(heap, at));
+    let size = kinds::size_of(declared, sizes, kind);
     let n = heap.len();
-    let g = unseen(
-        s.pages.made,
-        n,
-        f.standing,
-        &f.widths,
-        &marks,
-        kind,
-        size,
-        v,
-        slot,
-    );
+    let g = unseen(made, n, standing, widths, marks, kind, size, at, slot);
     if g != 0 {
-        return &heap[0..0];
+        return View {
+            refusal: g,
+            place: 0,
+            count: 0,
+        };
     }
-    let a = cells::within(v as usize, n);
-    let b = a + cells::part_len(v as usize, size as usize, n);
-    &heap[a..b]
+    let count = cells::part_len(at as usize, size as usize, n) as u32;
+    View {
+        refusal: 0,
+        place: place_of(at, count),
+        count,
+    }
 }

@@ -1,4 +1,9 @@
 // A session that a script drives, fed a chunk of bytes at a time: the lines are calls on one store, and each has its answer. No function here reads input or writes output.
+use frames::Frames;
+use kinds::Kinds;
+use pages::Pages;
+use regions::Regions;
+use state::Reply;
 use state::State;
 use tally::Tally;
 ghost use mathlib.Core.Path.{_≡_};
@@ -52,7 +57,23 @@ pub fn feed(
     ensures { λ r. ⌜ (length (now (memory .entry)) ≡ 16448 → length (now (line .entry)) ≡ 4100 → Scripted (talkOf s (now (line .entry)) (now (memory .entry))) (take (r .at) (now (chunk .entry))) (take (r .used) (now (out .exit))) (talkOf r (now (line .exit)) (now (memory .exit)))) ⌝ }
     ensures { λ r. ⌜ Fed (now (chunk .entry)) (now (out .entry)) (r .at) (r .used) ⌝ }
 {
-    let mut t = s.state;
+    let mut standing = s.state.frames.standing;
+    let mut counted = s.state.frames.counted;
+    let mut declared = s.state.kinds.declared;
+    let mut given = s.state.regions.given;
+    let mut made = s.state.pages.made;
+    let mut widths = s.state.frames.widths;
+    let mut slots = s.state.frames.slots;
+    let mut sizes = s.state.kinds.sizes;
+    let mut marks = s.state.kinds.marks;
+    let mut names = s.state.regions.names;
+    let mut parents = s.state.regions.parents;
+    let mut levels = s.state.regions.levels;
+    let mut shares = s.state.regions.shares;
+    let mut newest = s.state.regions.newest;
+    let mut oldest = s.state.regions.oldest;
+    let mut owners = s.state.pages.owners;
+    let mut taken = s.state.pages.taken;
     let mut c = s.tally;
     let mut words = s.words;
     let mut held = s.held;
@@ -70,16 +91,62 @@ pub fn feed(
             let k = cells::within(held, line.len());
             let l = scanner::heard(&line[0..k], c.first, c.stage);
             let a = l.args;
-            let d = actions::acted(t, memory, words, l);
-            used = tally::add_answer(out, used, c, l.call, a[0], d.reply);
-            c = tally::tallied(c, l.call, d.reply.refusal);
-            words = numbers::words_after(l.call, a[0], d.reply.refusal, words);
-            t = d.state;
+            let d = actions::acted(
+                &mut standing,
+                &mut counted,
+                &mut declared,
+                &mut given,
+                &mut made,
+                &mut widths,
+                &mut slots,
+                &mut sizes,
+                &mut marks,
+                &mut names,
+                &mut parents,
+                &mut levels,
+                &mut shares,
+                &mut newest,
+                &mut oldest,
+                &mut owners,
+                &mut taken,
+                memory,
+                words,
+                l,
+            );
+            used = tally::add_answer(out, used, c, l.call, a[0], d);
+            c = tally::tallied(c, l.call, d.refusal);
+            words = numbers::words_after(l.call, a[0], d.refusal, words);
             held = 0;
         }
     }
     Session {
-        state: t,
+        state: State {
+            frames: Frames {
+                standing: standing,
+                counted: counted,
+                widths: widths,
+                slots: slots,
+            },
+            kinds: Kinds {
+                declared: declared,
+                sizes: sizes,
+                marks: marks,
+            },
+            regions: Regions {
+                given: given,
+                names: names,
+                parents: parents,
+                levels: levels,
+                shares: shares,
+                newest: newest,
+                oldest: oldest,
+            },
+            pages: Pages {
+                made: made,
+                owners: owners,
+                taken: taken,
+            },
+        },
         words,
         tally: c,
         held,

@@ -71,8 +71,11 @@ pub fn subregions_of<'a>(names: &'a [u32], parents: &'a [u8], t: u32) -> u32
     let mut k: u32 = 0;
     let mut i: u32 = 0;
     while i < 64 {
-        if name_at(names, i) != 0 {
-            if parent_at(parents, i) == t {
+        // Both are read first, so that the compiler can take several entries at once.
+        let n = name_at(names, i);
+        let p = parent_at(parents, i);
+        if n != 0 {
+            if p == t {
                 k += 1;
             }
         }

@@ -12,7 +12,7 @@ use Rattle.state.specs.declared.Reply.{Reply}
 use Rattle.outcomes.specs.Store.{Store}
 use Rattle.outcomes.specs.Outcome.{MakeOutcome}
 use Rattle.outcomes.specs.Runs.{Event, calls, answers, Run}
-use Rattle.store.specs.Dispatch.{isCall}
+use Rattle.dispatch.specs.Dispatch.{isCall}
 use Rattle.script.specs.Script.{heard}
 use Rattle.actions.specs.Acts.{printed}
 use Rattle.tally.specs.declared.Tally.{Tally}

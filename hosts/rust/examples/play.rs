@@ -13,7 +13,7 @@ use std::{env, fs};
 mod by_name;
 
 /// How many calls there are between two comparisons of all memory.
-const OFTEN: u64 = 1000;
+const OFTEN: u64 = 20;
 
 #[derive(Default)]
 struct Options {

@@ -1,8 +1,8 @@
 //! A method for each call.
 
-use crate::refusal::accepted;
+use crate::refusal::{accepted, passed};
 use crate::store::Store;
-use crate::tables::{Ask, Refusal};
+use crate::tables::*;
 
 // hosts/tables: begin calls
 /// What [`Store::about`] gives: the values of call 19, in their order.
@@ -86,9 +86,27 @@ impl Store {
     /// # Ok(())
     /// # }
     /// ```
+    #[inline]
     pub fn declare(&mut self, marks: &[u32]) -> Result<u32, Refusal> {
-        let v = accepted(self.act(2, [0; 4], marks))?;
-        Ok(v[1])
+        let (s, heap, words) = self.lent();
+        let [_, _, declared, _, made] = &mut s.numbers;
+        let mut v = 0;
+        // SAFETY: see `Store::lent`.
+        let refusal = unsafe {
+            region_store_declare(
+                *made,
+                declared,
+                &mut s.sizes,
+                &mut s.marks,
+                heap,
+                words,
+                marks.as_ptr(),
+                marks.len(),
+                &mut v,
+            )
+        };
+        passed(refusal)?;
+        Ok(v)
     }
 
     /// Makes a region that lies in no other, and gives its name.
@@ -113,9 +131,29 @@ impl Store {
     /// # Ok(())
     /// # }
     /// ```
+    #[inline]
     pub fn new_region(&mut self) -> Result<u32, Refusal> {
-        let v = accepted(self.act(3, [0; 4], &[]))?;
-        Ok(v[1])
+        let (s, heap, words) = self.lent();
+        let [_, _, _, given, made] = &mut s.numbers;
+        let mut v = 0;
+        // SAFETY: see `Store::lent`.
+        let refusal = unsafe {
+            region_store_new_region(
+                *made,
+                given,
+                &mut s.names,
+                &mut s.parents,
+                &mut s.levels,
+                &mut s.shares,
+                &mut s.newest,
+                &mut s.oldest,
+                heap,
+                words,
+                &mut v,
+            )
+        };
+        passed(refusal)?;
+        Ok(v)
     }
 
     /// Makes a region inside a region, and gives its name.
@@ -150,9 +188,30 @@ impl Store {
     /// # Ok(())
     /// # }
     /// ```
+    #[inline]
     pub fn subregion(&mut self, region: u32) -> Result<u32, Refusal> {
-        let v = accepted(self.act(4, [region, 0, 0, 0], &[]))?;
-        Ok(v[1])
+        let (s, heap, words) = self.lent();
+        let [_, _, _, given, made] = &mut s.numbers;
+        let mut v = 0;
+        // SAFETY: see `Store::lent`.
+        let refusal = unsafe {
+            region_store_subregion(
+                *made,
+                given,
+                &mut s.names,
+                &mut s.parents,
+                &mut s.levels,
+                &mut s.shares,
+                &mut s.newest,
+                &mut s.oldest,
+                heap,
+                words,
+                region,
+                &mut v,
+            )
+        };
+        passed(refusal)?;
+        Ok(v)
     }
 
     /// Puts a frame of 1 to 8 null slots on the stack, and gives how many frames stand.
@@ -181,9 +240,26 @@ impl Store {
     /// # Ok(())
     /// # }
     /// ```
+    #[inline]
     pub fn push(&mut self, slots: u32) -> Result<u32, Refusal> {
-        let v = accepted(self.act(5, [slots, 0, 0, 0], &[]))?;
-        Ok(v[1])
+        let (s, heap, words) = self.lent();
+        let [standing, _, _, _, made] = &mut s.numbers;
+        let mut v = 0;
+        // SAFETY: see `Store::lent`.
+        let refusal = unsafe {
+            region_store_push(
+                *made,
+                standing,
+                &mut s.widths,
+                &mut s.slots,
+                heap,
+                words,
+                slots,
+                &mut v,
+            )
+        };
+        passed(refusal)?;
+        Ok(v)
     }
 
     /// Takes the top frame off the stack, and gives how many frames stand.
@@ -200,9 +276,29 @@ impl Store {
     /// - 21 [`Refusal::WrongHeap`], the heap's length is not the one made, or none was made, since make refused
     /// - 23 [`Refusal::NoFiller`], the filler is above 3
     /// - 6 [`Refusal::NoFrame`], no frame, or fewer than the two that the call needs
+    #[inline]
     pub fn drop(&mut self, filler: u32) -> Result<u32, Refusal> {
-        let v = accepted(self.act(6, [filler, 0, 0, 0], &[]))?;
-        Ok(v[1])
+        let (s, heap, words) = self.lent();
+        let [standing, counted, _, _, made] = &mut s.numbers;
+        let mut v = 0;
+        // SAFETY: see `Store::lent`.
+        let refusal = unsafe {
+            region_store_drop(
+                *made,
+                standing,
+                counted,
+                &s.widths,
+                &s.slots,
+                &mut s.shares,
+                &s.owners,
+                heap,
+                words,
+                filler,
+                &mut v,
+            )
+        };
+        passed(refusal)?;
+        Ok(v)
     }
 
     /// Takes the top frame off the stack, and puts what one of its slots held into a slot of the frame beneath it.
@@ -222,9 +318,31 @@ impl Store {
     /// - 23 [`Refusal::NoFiller`], the filler is above 3
     /// - 6 [`Refusal::NoFrame`], no frame, or fewer than the two that the call needs
     /// - 9 [`Refusal::NoSlot`], a slot named is not there
+    #[inline]
     pub fn hand_back(&mut self, slot: u32, beneath: u32, filler: u32) -> Result<u32, Refusal> {
-        let v = accepted(self.act(7, [slot, beneath, filler, 0], &[]))?;
-        Ok(v[1])
+        let (s, heap, words) = self.lent();
+        let [standing, counted, _, _, made] = &mut s.numbers;
+        let mut v = 0;
+        // SAFETY: see `Store::lent`.
+        let refusal = unsafe {
+            region_store_hand_back(
+                *made,
+                standing,
+                counted,
+                &s.widths,
+                &mut s.slots,
+                &mut s.shares,
+                &s.owners,
+                heap,
+                words,
+                slot,
+                beneath,
+                filler,
+                &mut v,
+            )
+        };
+        passed(refusal)?;
+        Ok(v)
     }
 
     /// Makes an object of a kind in a region, its words 0 or null, and leads a slot to it.
@@ -260,9 +378,32 @@ impl Store {
     /// # Ok(())
     /// # }
     /// ```
+    #[inline]
     pub fn allocate(&mut self, slot: u32, region: u32, kind: u32) -> Result<(), Refusal> {
-        accepted(self.act(8, [slot, region, kind, 0], &[]))?;
-        Ok(())
+        let (s, heap, words) = self.lent();
+        let [standing, _, declared, _, made] = &mut s.numbers;
+        // SAFETY: see `Store::lent`.
+        let refusal = unsafe {
+            region_store_allocate(
+                *made,
+                *standing,
+                *declared,
+                &s.widths,
+                &mut s.slots,
+                &s.sizes,
+                &s.names,
+                &mut s.newest,
+                &mut s.oldest,
+                &mut s.owners,
+                &mut s.taken,
+                heap,
+                words,
+                slot,
+                region,
+                kind,
+            )
+        };
+        passed(refusal)
     }
 
     /// Leads a slot to the first object of a region, or makes it null where there is none.
@@ -281,9 +422,26 @@ impl Store {
     /// - 6 [`Refusal::NoFrame`], no frame, or fewer than the two that the call needs
     /// - 9 [`Refusal::NoSlot`], a slot named is not there
     /// - 2 [`Refusal::NoRegion`], no live region has that name
+    #[inline]
     pub fn first(&mut self, slot: u32, region: u32) -> Result<(), Refusal> {
-        accepted(self.act(9, [slot, region, 0, 0], &[]))?;
-        Ok(())
+        let (s, heap, words) = self.lent();
+        let [standing, _, _, _, made] = &mut s.numbers;
+        // SAFETY: see `Store::lent`.
+        let refusal = unsafe {
+            region_store_first(
+                *made,
+                *standing,
+                &s.widths,
+                &mut s.slots,
+                &s.names,
+                &s.oldest,
+                heap,
+                words,
+                slot,
+                region,
+            )
+        };
+        passed(refusal)
     }
 
     /// Leads a slot to where another one leads.
@@ -301,9 +459,24 @@ impl Store {
     /// - 21 [`Refusal::WrongHeap`], the heap's length is not the one made, or none was made, since make refused
     /// - 6 [`Refusal::NoFrame`], no frame, or fewer than the two that the call needs
     /// - 9 [`Refusal::NoSlot`], a slot named is not there
+    #[inline]
     pub fn copy(&mut self, from: u32, to: u32) -> Result<(), Refusal> {
-        accepted(self.act(10, [from, to, 0, 0], &[]))?;
-        Ok(())
+        let (s, heap, words) = self.lent();
+        let [standing, _, _, _, made] = &mut s.numbers;
+        // SAFETY: see `Store::lent`.
+        let refusal = unsafe {
+            region_store_copy(
+                *made,
+                *standing,
+                &s.widths,
+                &mut s.slots,
+                heap,
+                words,
+                from,
+                to,
+            )
+        };
+        passed(refusal)
     }
 
     /// Leads a slot to where a slot of the frame beneath leads.
@@ -321,9 +494,24 @@ impl Store {
     /// - 21 [`Refusal::WrongHeap`], the heap's length is not the one made, or none was made, since make refused
     /// - 6 [`Refusal::NoFrame`], no frame, or fewer than the two that the call needs
     /// - 9 [`Refusal::NoSlot`], a slot named is not there
+    #[inline]
     pub fn fetch(&mut self, beneath: u32, slot: u32) -> Result<(), Refusal> {
-        accepted(self.act(11, [beneath, slot, 0, 0], &[]))?;
-        Ok(())
+        let (s, heap, words) = self.lent();
+        let [standing, _, _, _, made] = &mut s.numbers;
+        // SAFETY: see `Store::lent`.
+        let refusal = unsafe {
+            region_store_fetch(
+                *made,
+                *standing,
+                &s.widths,
+                &mut s.slots,
+                heap,
+                words,
+                beneath,
+                slot,
+            )
+        };
+        passed(refusal)
     }
 
     /// Makes a slot null.
@@ -340,9 +528,15 @@ impl Store {
     /// - 21 [`Refusal::WrongHeap`], the heap's length is not the one made, or none was made, since make refused
     /// - 6 [`Refusal::NoFrame`], no frame, or fewer than the two that the call needs
     /// - 9 [`Refusal::NoSlot`], a slot named is not there
+    #[inline]
     pub fn clear(&mut self, slot: u32) -> Result<(), Refusal> {
-        accepted(self.act(12, [slot, 0, 0, 0], &[]))?;
-        Ok(())
+        let (s, heap, words) = self.lent();
+        let [standing, _, _, _, made] = &mut s.numbers;
+        // SAFETY: see `Store::lent`.
+        let refusal = unsafe {
+            region_store_clear(*made, *standing, &s.widths, &mut s.slots, heap, words, slot)
+        };
+        passed(refusal)
     }
 
     /// Leads a slot to where a pointer word of an object leads.
@@ -364,9 +558,28 @@ impl Store {
     /// - 14 [`Refusal::NullObject`], the object slot is null
     /// - 15 [`Refusal::NoWord`], the object has no such word
     /// - 16 [`Refusal::WrongWord`], the word is data where a pointer is wanted, or the other way round; for view, some word is no data
+    #[inline]
     pub fn load(&mut self, slot: u32, word: u32, to: u32) -> Result<(), Refusal> {
-        accepted(self.act(13, [slot, word, to, 0], &[]))?;
-        Ok(())
+        let (s, heap, words) = self.lent();
+        let [standing, _, declared, _, made] = &mut s.numbers;
+        // SAFETY: see `Store::lent`.
+        let refusal = unsafe {
+            region_store_load(
+                *made,
+                *standing,
+                *declared,
+                &s.widths,
+                &mut s.slots,
+                &s.sizes,
+                &s.marks,
+                heap,
+                words,
+                slot,
+                word,
+                to,
+            )
+        };
+        passed(refusal)
     }
 
     /// Leads a pointer word of an object to where a slot leads, if the word's mark allows it.
@@ -408,6 +621,7 @@ impl Store {
     /// # Ok(())
     /// # }
     /// ```
+    #[inline]
     pub fn set_pointer(
         &mut self,
         slot: u32,
@@ -415,8 +629,32 @@ impl Store {
         value: u32,
         filler: u32,
     ) -> Result<(), Refusal> {
-        accepted(self.act(14, [slot, word, value, filler], &[]))?;
-        Ok(())
+        let (s, heap, words) = self.lent();
+        let [standing, _, declared, _, made] = &mut s.numbers;
+        // SAFETY: see `Store::lent`.
+        let refusal = unsafe {
+            region_store_set_pointer(
+                *made,
+                *standing,
+                *declared,
+                &s.widths,
+                &s.slots,
+                &s.sizes,
+                &s.marks,
+                &s.names,
+                &s.parents,
+                &s.levels,
+                &mut s.shares,
+                &s.owners,
+                heap,
+                words,
+                slot,
+                word,
+                value,
+                filler,
+            )
+        };
+        passed(refusal)
     }
 
     /// Writes a data word of an object.
@@ -454,9 +692,18 @@ impl Store {
     /// # Ok(())
     /// # }
     /// ```
+    #[inline]
     pub fn put(&mut self, slot: u32, word: u32, number: u32) -> Result<(), Refusal> {
-        accepted(self.act(15, [slot, word, number, 0], &[]))?;
-        Ok(())
+        let (s, heap, words) = self.lent();
+        let [standing, _, declared, _, made] = &mut s.numbers;
+        // SAFETY: see `Store::lent`.
+        let refusal = unsafe {
+            region_store_put(
+                *made, *standing, *declared, &s.widths, &s.slots, &s.sizes, &s.marks, heap, words,
+                slot, word, number,
+            )
+        };
+        passed(refusal)
     }
 
     /// Reads a data word of an object.
@@ -477,9 +724,20 @@ impl Store {
     /// - 14 [`Refusal::NullObject`], the object slot is null
     /// - 15 [`Refusal::NoWord`], the object has no such word
     /// - 16 [`Refusal::WrongWord`], the word is data where a pointer is wanted, or the other way round; for view, some word is no data
+    #[inline]
     pub fn get(&self, slot: u32, word: u32) -> Result<u32, Refusal> {
-        let v = accepted(self.ask(Ask::Get, [slot, word, 0, 0], &[]))?;
-        Ok(v[1])
+        let (s, heap, words) = self.shown();
+        let [standing, _, declared, _, made] = s.numbers;
+        let mut v = 0;
+        // SAFETY: see `Store::shown`.
+        let refusal = unsafe {
+            region_store_get(
+                made, standing, declared, &s.widths, &s.slots, &s.sizes, &s.marks, heap, words,
+                slot, word, &mut v,
+            )
+        };
+        passed(refusal)?;
+        Ok(v)
     }
 
     /// Gives the words of an object without pointers: the part of the heap itself, no copy.
@@ -550,9 +808,19 @@ impl Store {
     /// - 21 [`Refusal::WrongHeap`], the heap's length is not the one made, or none was made, since make refused
     /// - 6 [`Refusal::NoFrame`], no frame, or fewer than the two that the call needs
     /// - 9 [`Refusal::NoSlot`], a slot named is not there
+    #[inline]
     pub fn same(&self, slot: u32, other: u32) -> Result<bool, Refusal> {
-        let v = accepted(self.ask(Ask::Same, [slot, other, 0, 0], &[]))?;
-        Ok(v[1] == 1)
+        let (s, heap, words) = self.shown();
+        let [standing, _, _, _, made] = s.numbers;
+        let mut v = 0;
+        // SAFETY: see `Store::shown`.
+        let refusal = unsafe {
+            region_store_same(
+                made, standing, &s.widths, &s.slots, heap, words, slot, other, &mut v,
+            )
+        };
+        passed(refusal)?;
+        Ok(v == 1)
     }
 
     /// Gives the region and the kind of the object that a slot leads to, 0 and 0 for null.
@@ -569,11 +837,21 @@ impl Store {
     /// - 21 [`Refusal::WrongHeap`], the heap's length is not the one made, or none was made, since make refused
     /// - 6 [`Refusal::NoFrame`], no frame, or fewer than the two that the call needs
     /// - 9 [`Refusal::NoSlot`], a slot named is not there
+    #[inline]
     pub fn about(&self, slot: u32) -> Result<About, Refusal> {
-        let v = accepted(self.ask(Ask::About, [slot, 0, 0, 0], &[]))?;
+        let (s, heap, words) = self.shown();
+        let [standing, _, _, _, made] = s.numbers;
+        let mut v = [0; 2];
+        // SAFETY: see `Store::shown`.
+        let refusal = unsafe {
+            region_store_about(
+                made, standing, &s.widths, &s.slots, &s.names, &s.owners, heap, words, slot, &mut v,
+            )
+        };
+        passed(refusal)?;
         Ok(About {
-            region: v[1],
-            kind: v[2],
+            region: v[0],
+            kind: v[1],
         })
     }
 
@@ -603,13 +881,24 @@ impl Store {
     /// # Ok(())
     /// # }
     /// ```
+    #[inline]
     pub fn report(&self, region: u32) -> Result<Report, Refusal> {
-        let v = accepted(self.ask(Ask::Report, [region, 0, 0, 0], &[]))?;
+        let (s, heap, words) = self.shown();
+        let [standing, counted, _, _, made] = s.numbers;
+        let mut v = [0; 4];
+        // SAFETY: see `Store::shown`.
+        let refusal = unsafe {
+            region_store_report(
+                made, standing, counted, &s.widths, &s.slots, &s.names, &s.parents, &s.shares,
+                &s.owners, heap, words, region, &mut v,
+            )
+        };
+        passed(refusal)?;
         Ok(Report {
-            count: v[1],
-            outside: v[2],
-            pages: v[3],
-            subregions: v[4],
+            count: v[0],
+            outside: v[1],
+            pages: v[2],
+            subregions: v[3],
         })
     }
 
@@ -629,13 +918,20 @@ impl Store {
     /// # }
     /// ```
     #[must_use]
+    #[inline]
     pub fn totals(&self) -> Totals {
-        let v = self.ask(Ask::Totals, [0; 4], &[]);
+        let (s, _, _) = self.shown();
+        let [standing, counted, _, _, made] = s.numbers;
+        let mut v = [0; 4];
+        // SAFETY: see `Store::shown`.
+        let refusal =
+            unsafe { region_store_totals(made, standing, counted, &s.names, &s.owners, &mut v) };
+        passed(refusal).expect("it is never refused");
         Totals {
-            free_pages: v[1],
-            regions: v[2],
-            frames: v[3],
-            counted: v[4],
+            free_pages: v[0],
+            regions: v[1],
+            frames: v[2],
+            counted: v[3],
         }
     }
 
@@ -655,8 +951,7 @@ impl Store {
     /// ```
     #[must_use]
     pub fn audit(&self) -> bool {
-        let v = self.ask(Ask::Audit, [0; 4], &[]);
-        v[1] == 1
+        self.audited()[1] == 1
     }
 
     /// Deletes a region, and gives how many pages that frees.
@@ -694,9 +989,36 @@ impl Store {
     /// # Ok(())
     /// # }
     /// ```
+    #[inline]
     pub fn delete(&mut self, region: u32, filler: u32) -> Result<u32, Refusal> {
-        let v = accepted(self.act(23, [region, filler, 0, 0], &[]))?;
-        Ok(v[1])
+        let (s, heap, words) = self.lent();
+        let [standing, counted, declared, _, made] = &mut s.numbers;
+        let mut v = 0;
+        // SAFETY: see `Store::lent`.
+        let refusal = unsafe {
+            region_store_delete(
+                *made,
+                *standing,
+                counted,
+                *declared,
+                &s.widths,
+                &s.slots,
+                &s.sizes,
+                &s.marks,
+                &mut s.names,
+                &s.parents,
+                &mut s.shares,
+                &mut s.owners,
+                &s.taken,
+                heap,
+                words,
+                region,
+                filler,
+                &mut v,
+            )
+        };
+        passed(refusal)?;
+        Ok(v)
     }
 
     /// Deletes 1 to 16 regions that may lead into each other, all or none, and gives how many pages that frees. Refusals 2 and 3 are tested for one name after the other.
@@ -751,11 +1073,21 @@ impl Store {
     /// - 21 [`Refusal::WrongHeap`], the heap's length is not the one made, or none was made, since make refused
     /// - 6 [`Refusal::NoFrame`], no frame, or fewer than the two that the call needs
     /// - 9 [`Refusal::NoSlot`], a slot named is not there
+    #[inline]
     pub fn locate(&self, slot: u32) -> Result<Locate, Refusal> {
-        let v = accepted(self.ask(Ask::Locate, [slot, 0, 0, 0], &[]))?;
+        let (s, heap, words) = self.shown();
+        let [standing, _, _, _, made] = s.numbers;
+        let mut v = [0; 2];
+        // SAFETY: see `Store::shown`.
+        let refusal = unsafe {
+            region_store_locate(
+                made, standing, &s.widths, &s.slots, heap, words, slot, &mut v,
+            )
+        };
+        passed(refusal)?;
         Ok(Locate {
-            page: v[1],
-            word: v[2],
+            page: v[0],
+            word: v[1],
         })
     }
 }

@@ -60,12 +60,18 @@ impl fmt::Display for Refusal {
 
 impl Error for Refusal {}
 
-/// The reply to a call, or its refusal.
-pub(crate) fn accepted(reply: [u32; 5]) -> Result<[u32; 5], Refusal> {
-    match reply[0] {
-        0 => Ok(reply),
+/// Nothing, or the refusal with that number.
+#[inline]
+pub(crate) fn passed(number: u32) -> Result<(), Refusal> {
+    match number {
+        0 => Ok(()),
         number => Err(known(number)),
     }
+}
+
+/// The reply to a call, or its refusal.
+pub(crate) fn accepted(reply: [u32; 5]) -> Result<[u32; 5], Refusal> {
+    passed(reply[0]).map(|()| reply)
 }
 
 /// A refusal of the library.

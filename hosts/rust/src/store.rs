@@ -1,10 +1,10 @@
-//! The store: a state and a heap, lent to the library at each call. Every unsafe block of the crate is here.
+//! The store: a state and a heap, lent to the library at each call. Every unsafe block of the crate is here, or in a call that `lent` or `shown` below serves.
 
 use crate::refusal::{accepted, known};
-use crate::tables::{lend, region_store_layout, Ask, Refusal, State, LAYOUT, STATE_BYTES};
-use std::cell::UnsafeCell;
+use crate::tables::{lend, region_store_layout, Refusal, State, LAYOUT, STATE_BYTES};
+use std::cell::Cell;
 use std::fmt;
-use std::slice;
+use std::marker::PhantomData;
 use std::sync::OnceLock;
 
 /// Words of a page.
@@ -17,13 +17,12 @@ pub(crate) const PAGES: u32 = 256;
 ///
 /// Calls that only ask take `&self`, those that act `&mut self`. A copy made by `clone` is a store of its own with the same state and heap.
 //
-// Both stand in UnsafeCells, since the library writes the state back also where a call only asks, and takes the heap as one that may be written. What keeps this right:
-// - No reference to the state is ever handed out, nor kept over a call of the library.
-// - References to the heap are handed out under `&self`. While one lives only calls that ask can be made, and the library's code of those has the heap only to read.
-// - UnsafeCell takes away Sync, so that calls under `&self` come one after the other.
+// Under `&self` the library is lent both only to read, so that parts of the heap may be handed out meanwhile; what writes them has `&mut self`.
 pub struct Store {
-    state: Box<UnsafeCell<State>>,
-    heap: Box<[UnsafeCell<u32>]>,
+    state: Box<State>,
+    heap: Box<[u32]>,
+    /// One caller at a time: this is not Sync.
+    one_caller: PhantomData<Cell<()>>,
 }
 
 // A state has no padding, and is aligned as its widest numbers are.
@@ -79,8 +78,9 @@ impl Store {
     pub(crate) fn with_memory(state: State, heap: Vec<u32>) -> Store {
         check_layout();
         Store {
-            state: Box::new(UnsafeCell::new(state)),
-            heap: heap.into_iter().map(UnsafeCell::new).collect(),
+            state: Box::new(state),
+            heap: heap.into_boxed_slice(),
+            one_caller: PhantomData,
         }
     }
 
@@ -105,16 +105,10 @@ impl Store {
     /// What [`Store::view`] gives.
     pub(crate) fn part(&self, slot: u32) -> Result<&[u32], Refusal> {
         let mut out = [0; 3];
-        // SAFETY: the pointers are this store's own, aligned and not null, with the lengths that the library takes and the heap's true one; `out` is another buffer. The library only reads state and heap here, and nobody writes them meanwhile: the store is not Sync.
+        // SAFETY: see `Store::shown`; `out` is another buffer.
         unsafe {
-            lend!(
-                region_store_view,
-                self.state.get(),
-                self.words(),
-                self.heap.len(),
-                slot,
-                &raw mut out,
-            );
+            let (state, heap, words) = self.shown();
+            lend!(const region_store_view, state, heap, words, slot, &raw mut out);
         }
         let [refusal, place, length] = out;
         if refusal != 0 {
@@ -123,11 +117,21 @@ impl Store {
         Ok(&self.heap()[place as usize..][..length as usize])
     }
 
+    /// What [`Store::audit`] gives, as a reply.
+    pub(crate) fn audited(&self) -> [u32; 5] {
+        let mut reply = [0; 5];
+        // SAFETY: see `Store::shown`; `reply` is another buffer.
+        unsafe {
+            let (state, heap, words) = self.shown();
+            lend!(const region_store_audit, state, heap, words, &raw mut reply);
+        }
+        reply
+    }
+
     /// The words of the heap: 64 for each page.
     #[must_use]
     pub fn heap(&self) -> &[u32] {
-        // SAFETY: the pointer and the length are those of the store's own words. While the reference lives the store is borrowed: no call that acts can be made, and one that asks only reads the heap.
-        unsafe { slice::from_raw_parts(self.words(), self.heap.len()) }
+        &self.heap
     }
 
     /// How many pages the heap has, 1 to 256.
@@ -140,70 +144,51 @@ impl Store {
     #[must_use]
     pub fn state_bytes(&self) -> Vec<u8> {
         let mut bytes = Vec::with_capacity(STATE_BYTES);
-        self.state().write(&mut bytes);
+        self.state.write(&mut bytes);
         bytes
     }
 
-    /// The state, copied.
-    fn state(&self) -> State {
-        // SAFETY: the reference lives for the copy alone, and nothing writes the state meanwhile: the store is not Sync.
-        unsafe { (*self.state.get()).clone() }
+    /// The state and the heap, to be lent to a function of the library for one call.
+    ///
+    /// That is right: the pointers are this store's own, aligned and not null (also those of an empty heap), with the heap's true length; the arrays of the state are different members of it; `&mut self` says that no other reference to state or heap lives, so that a list is none of the heap, and what is written besides, a value or a reply, is a local of the caller.
+    pub(crate) fn lent(&mut self) -> (&mut State, *mut u32, usize) {
+        let words = self.heap.len();
+        (&mut self.state, self.heap.as_mut_ptr(), words)
     }
 
-    /// The heap, as a pointer that may be written through: the words stand in UnsafeCells, so it may be had under `&self`.
-    fn words(&self) -> *mut u32 {
-        UnsafeCell::raw_get(self.heap.as_ptr())
+    /// The state and the heap, to be lent to a function of the library that only reads them, for one call: right for the same reasons, and nothing writes either while `&self` lives.
+    pub(crate) fn shown(&self) -> (&State, *const u32, usize) {
+        (&self.state, self.heap.as_ptr(), self.heap.len())
     }
 
     fn make(&mut self) -> [u32; 5] {
         let mut reply = [0; 5];
-        // SAFETY: the pointers are this store's own, aligned and not null (also those of an empty heap), with the lengths that the library takes and the heap's true one; `reply` is another buffer. `&mut self` says that no reference to state or heap lives.
-        unsafe {
-            lend!(
-                region_store_make,
-                self.state.get(),
-                self.words(),
-                self.heap.len(),
-                &raw mut reply,
-            );
-        }
+        let (state, heap, words) = self.lent();
+        // SAFETY: see `Store::lent`.
+        unsafe { lend!(mut region_store_make, state, heap, words, &raw mut reply) };
         reply
     }
 
-    /// Makes a call that only asks.
-    pub(crate) fn ask(&self, call: Ask, numbers: [u32; 4], list: &[u32]) -> [u32; 5] {
-        // SAFETY: `Ask` has only calls that ask.
-        unsafe { self.run(call as u32, numbers, list) }
-    }
-
-    /// Makes any call.
+    /// Makes any call by its number.
     pub(crate) fn act(&mut self, number: u32, numbers: [u32; 4], list: &[u32]) -> [u32; 5] {
-        // SAFETY: `&mut self` says that no reference to the heap lives.
-        unsafe { self.run(number, numbers, list) }
-    }
-
-    /// Makes a call by its number.
-    ///
-    /// # Safety
-    ///
-    /// The call with this number only asks, or no reference to the heap lives.
-    unsafe fn run(&self, number: u32, numbers: [u32; 4], list: &[u32]) -> [u32; 5] {
         let [a, b, c, d] = numbers;
         let mut reply = [0; 5];
-        // SAFETY: the pointers are this store's own, aligned and not null, with the lengths that the library takes and the heap's true one; `list` has its own, is not null where it is empty either, and is only read; `reply` is another buffer. The state is written back, and no reference to it lives. The heap is written only by calls that act, and then no reference to it lives: so says the caller, and `list` is no part of it.
+        let (state, heap, words) = self.lent();
+        let (list, count) = (list.as_ptr(), list.len());
+        // SAFETY: see `Store::lent`; `list` has its own length, is not null where it is empty either, and is only read.
         unsafe {
             lend!(
-                region_store_call,
-                self.state.get(),
-                self.words(),
-                self.heap.len(),
+                mut region_store_call,
+                state,
+                heap,
+                words,
                 number,
                 a,
                 b,
                 c,
                 d,
-                list.as_ptr(),
-                list.len(),
+                list,
+                count,
                 &raw mut reply,
             );
         }
@@ -213,7 +198,7 @@ impl Store {
 
 impl Clone for Store {
     fn clone(&self) -> Store {
-        Store::with_memory(self.state(), self.heap().to_vec())
+        Store::with_memory(State::clone(&self.state), self.heap.to_vec())
     }
 }
 

@@ -172,45 +172,323 @@ extern "C" {
         slot: u32,
         out: *mut [u32; 3],
     );
+    pub(crate) fn region_store_audit(
+        numbers: *const [u32; 5],
+        widths: *const [u8; 32],
+        slots: *const [u32; 256],
+        sizes: *const [u8; 16],
+        marks: *const [u8; 256],
+        names: *const [u32; 64],
+        parents: *const [u8; 64],
+        levels: *const [u8; 64],
+        shares: *const [u32; 256],
+        newest: *const [u16; 64],
+        oldest: *const [u32; 64],
+        owners: *const [u8; 256],
+        taken: *const [u8; 256],
+        heap: *const u32,
+        words: usize,
+        reply: *mut [u32; 5],
+    );
     pub(crate) fn region_store_layout(out: *mut u32, room: usize) -> usize;
+    pub(crate) fn region_store_declare(
+        made: u32,
+        declared: &mut u32,
+        sizes: &mut [u8; 16],
+        marks: &mut [u8; 256],
+        heap: *const u32,
+        words: usize,
+        list: *const u32,
+        count: usize,
+        value: &mut u32,
+    ) -> u32;
+    pub(crate) fn region_store_new_region(
+        made: u32,
+        given: &mut u32,
+        names: &mut [u32; 64],
+        parents: &mut [u8; 64],
+        levels: &mut [u8; 64],
+        shares: &mut [u32; 256],
+        newest: &mut [u16; 64],
+        oldest: &mut [u32; 64],
+        heap: *const u32,
+        words: usize,
+        value: &mut u32,
+    ) -> u32;
+    pub(crate) fn region_store_subregion(
+        made: u32,
+        given: &mut u32,
+        names: &mut [u32; 64],
+        parents: &mut [u8; 64],
+        levels: &mut [u8; 64],
+        shares: &mut [u32; 256],
+        newest: &mut [u16; 64],
+        oldest: &mut [u32; 64],
+        heap: *const u32,
+        words: usize,
+        region: u32,
+        value: &mut u32,
+    ) -> u32;
+    pub(crate) fn region_store_push(
+        made: u32,
+        standing: &mut u32,
+        widths: &mut [u8; 32],
+        slots: &mut [u32; 256],
+        heap: *const u32,
+        words: usize,
+        count: u32,
+        value: &mut u32,
+    ) -> u32;
+    pub(crate) fn region_store_drop(
+        made: u32,
+        standing: &mut u32,
+        counted: &mut u32,
+        widths: &[u8; 32],
+        slots: &[u32; 256],
+        shares: &mut [u32; 256],
+        owners: &[u8; 256],
+        heap: *const u32,
+        words: usize,
+        filler: u32,
+        value: &mut u32,
+    ) -> u32;
+    pub(crate) fn region_store_hand_back(
+        made: u32,
+        standing: &mut u32,
+        counted: &mut u32,
+        widths: &[u8; 32],
+        slots: &mut [u32; 256],
+        shares: &mut [u32; 256],
+        owners: &[u8; 256],
+        heap: *const u32,
+        words: usize,
+        slot: u32,
+        beneath: u32,
+        filler: u32,
+        value: &mut u32,
+    ) -> u32;
+    pub(crate) fn region_store_allocate(
+        made: u32,
+        standing: u32,
+        declared: u32,
+        widths: &[u8; 32],
+        slots: &mut [u32; 256],
+        sizes: &[u8; 16],
+        names: &[u32; 64],
+        newest: &mut [u16; 64],
+        oldest: &mut [u32; 64],
+        owners: &mut [u8; 256],
+        taken: &mut [u8; 256],
+        heap: *mut u32,
+        words: usize,
+        slot: u32,
+        region: u32,
+        kind: u32,
+    ) -> u32;
+    pub(crate) fn region_store_first(
+        made: u32,
+        standing: u32,
+        widths: &[u8; 32],
+        slots: &mut [u32; 256],
+        names: &[u32; 64],
+        oldest: &[u32; 64],
+        heap: *const u32,
+        words: usize,
+        slot: u32,
+        region: u32,
+    ) -> u32;
+    pub(crate) fn region_store_copy(
+        made: u32,
+        standing: u32,
+        widths: &[u8; 32],
+        slots: &mut [u32; 256],
+        heap: *const u32,
+        words: usize,
+        from: u32,
+        to: u32,
+    ) -> u32;
+    pub(crate) fn region_store_fetch(
+        made: u32,
+        standing: u32,
+        widths: &[u8; 32],
+        slots: &mut [u32; 256],
+        heap: *const u32,
+        words: usize,
+        beneath: u32,
+        slot: u32,
+    ) -> u32;
+    pub(crate) fn region_store_clear(
+        made: u32,
+        standing: u32,
+        widths: &[u8; 32],
+        slots: &mut [u32; 256],
+        heap: *const u32,
+        words: usize,
+        slot: u32,
+    ) -> u32;
+    pub(crate) fn region_store_load(
+        made: u32,
+        standing: u32,
+        declared: u32,
+        widths: &[u8; 32],
+        slots: &mut [u32; 256],
+        sizes: &[u8; 16],
+        marks: &[u8; 256],
+        heap: *const u32,
+        words: usize,
+        slot: u32,
+        word: u32,
+        to: u32,
+    ) -> u32;
+    pub(crate) fn region_store_set_pointer(
+        made: u32,
+        standing: u32,
+        declared: u32,
+        widths: &[u8; 32],
+        slots: &[u32; 256],
+        sizes: &[u8; 16],
+        marks: &[u8; 256],
+        names: &[u32; 64],
+        parents: &[u8; 64],
+        levels: &[u8; 64],
+        shares: &mut [u32; 256],
+        owners: &[u8; 256],
+        heap: *mut u32,
+        words: usize,
+        slot: u32,
+        word: u32,
+        value: u32,
+        filler: u32,
+    ) -> u32;
+    pub(crate) fn region_store_put(
+        made: u32,
+        standing: u32,
+        declared: u32,
+        widths: &[u8; 32],
+        slots: &[u32; 256],
+        sizes: &[u8; 16],
+        marks: &[u8; 256],
+        heap: *mut u32,
+        words: usize,
+        slot: u32,
+        word: u32,
+        number: u32,
+    ) -> u32;
+    pub(crate) fn region_store_get(
+        made: u32,
+        standing: u32,
+        declared: u32,
+        widths: &[u8; 32],
+        slots: &[u32; 256],
+        sizes: &[u8; 16],
+        marks: &[u8; 256],
+        heap: *const u32,
+        words: usize,
+        slot: u32,
+        word: u32,
+        value: &mut u32,
+    ) -> u32;
+    pub(crate) fn region_store_same(
+        made: u32,
+        standing: u32,
+        widths: &[u8; 32],
+        slots: &[u32; 256],
+        heap: *const u32,
+        words: usize,
+        slot: u32,
+        other: u32,
+        value: &mut u32,
+    ) -> u32;
+    pub(crate) fn region_store_about(
+        made: u32,
+        standing: u32,
+        widths: &[u8; 32],
+        slots: &[u32; 256],
+        names: &[u32; 64],
+        owners: &[u8; 256],
+        heap: *const u32,
+        words: usize,
+        slot: u32,
+        values: &mut [u32; 2],
+    ) -> u32;
+    pub(crate) fn region_store_report(
+        made: u32,
+        standing: u32,
+        counted: u32,
+        widths: &[u8; 32],
+        slots: &[u32; 256],
+        names: &[u32; 64],
+        parents: &[u8; 64],
+        shares: &[u32; 256],
+        owners: &[u8; 256],
+        heap: *const u32,
+        words: usize,
+        region: u32,
+        values: &mut [u32; 4],
+    ) -> u32;
+    pub(crate) fn region_store_totals(
+        made: u32,
+        standing: u32,
+        counted: u32,
+        names: &[u32; 64],
+        owners: &[u8; 256],
+        values: &mut [u32; 4],
+    ) -> u32;
+    pub(crate) fn region_store_delete(
+        made: u32,
+        standing: u32,
+        counted: &mut u32,
+        declared: u32,
+        widths: &[u8; 32],
+        slots: &[u32; 256],
+        sizes: &[u8; 16],
+        marks: &[u8; 256],
+        names: &mut [u32; 64],
+        parents: &[u8; 64],
+        shares: &mut [u32; 256],
+        owners: &mut [u8; 256],
+        taken: &[u8; 256],
+        heap: *const u32,
+        words: usize,
+        region: u32,
+        filler: u32,
+        value: &mut u32,
+    ) -> u32;
+    pub(crate) fn region_store_locate(
+        made: u32,
+        standing: u32,
+        widths: &[u8; 32],
+        slots: &[u32; 256],
+        heap: *const u32,
+        words: usize,
+        slot: u32,
+        values: &mut [u32; 2],
+    ) -> u32;
 }
 
-/// Calls a function of the library with the arrays of a state (a `*mut State`), then the rest of its arguments.
+/// Calls a function of the library with the arrays of a state, which it writes (`mut`) or only reads (`const`), then the rest of its arguments.
 macro_rules! lend {
-    ($function:ident, $state:expr, $($rest:expr),+ $(,)?) => {{
-        let state: *mut $crate::tables::State = $state;
+    ($how:tt $function:ident, $state:expr, $($rest:expr),+ $(,)?) => {{
+        let state: *$how $crate::tables::State = $state;
         $crate::tables::$function(
-            &raw mut (*state).numbers,
-            &raw mut (*state).widths,
-            &raw mut (*state).slots,
-            &raw mut (*state).sizes,
-            &raw mut (*state).marks,
-            &raw mut (*state).names,
-            &raw mut (*state).parents,
-            &raw mut (*state).levels,
-            &raw mut (*state).shares,
-            &raw mut (*state).newest,
-            &raw mut (*state).oldest,
-            &raw mut (*state).owners,
-            &raw mut (*state).taken,
+            &raw $how (*state).numbers,
+            &raw $how (*state).widths,
+            &raw $how (*state).slots,
+            &raw $how (*state).sizes,
+            &raw $how (*state).marks,
+            &raw $how (*state).names,
+            &raw $how (*state).parents,
+            &raw $how (*state).levels,
+            &raw $how (*state).shares,
+            &raw $how (*state).newest,
+            &raw $how (*state).oldest,
+            &raw $how (*state).owners,
+            &raw $how (*state).taken,
             $($rest),+
         )
     }};
 }
 pub(crate) use lend;
-
-/// The calls that only ask, by their numbers: they leave the state and the heap as they are. View has a function of its own.
-#[derive(Clone, Copy)]
-#[repr(u32)]
-pub(crate) enum Ask {
-    Get = 16,
-    Same = 18,
-    About = 19,
-    Report = 20,
-    Totals = 21,
-    Audit = 22,
-    Locate = 25,
-}
 
 /// Why a call was refused. A refused call has changed nothing.
 #[derive(Clone, Copy, Debug, PartialEq, Eq, Hash)]

@@ -13,7 +13,7 @@ use Rattle.outcomes.specs.Store.{Store}
 use Rattle.outcomes.specs.Outcome.{store, answerOf}
 use Rattle.outcomes.specs.Runs.{Event, Run, done, step, calls, answers}
 use Rattle.outcomes.specs.Shape.{Sized}
-use Rattle.store.specs.Dispatch.{isCall, decoded, DispatchedBy, Dispatched}
+use Rattle.dispatch.specs.Dispatch.{isCall, decoded, DispatchedBy, Dispatched}
 use Rattle.abi.specs.Memory.{arraysOf, OfSizes, sizes, HoldsState, Called, replyOf}
 use Rattle.abi.specs.Hosts.{Request, Driven, ended, asked, requested, numbersOf, replied, OneState, AllSized, HostRuns}
 

@@ -7,14 +7,14 @@ use Prim.Native.Nat.{ℕ}
 use lib.Dec.{eqb}
 use lib.ListN.{replicate}
 use Rattle.lists.specs.Lists.{every, equal}
-use Rattle.model.specs.Model.{delete}
+use Rattle.model.specs.Model.{delete, gives}
 use Rattle.frames.specs.Frames.{frameCount, topFrame, widthAt, slotAt, raised}
 use Rattle.kinds.specs.Kinds.{kindCount, sizeOf, markAt, sizeIn}
 use Rattle.regions.specs.Regions.{nameAt, entryOf, tagOf, isLive, parentAt, subregionsOf, countAt, countIn, added, withoutRegions, withShares, rolled, moved, entryIn, subregionsIn, recount}
-use Rattle.pages.specs.Pages.{wrongLength, pageCount, ownerAt, takenAt, ownerIn, ownerOf, freed, wrongLengthIn, ownersTo}
+use Rattle.pages.specs.Pages.{wrongLength, pageCount, ownerAt, takenAt, ownerIn, ownerOf, freed, wrongLengthIn, ownersTo, pagesIn, pagesOf}
 use Rattle.objects.specs.Objects.{walk, headersTo, headersOn, freeWords, freeWordsOn, freeWordsOf, outOf}
 use Rattle.outcomes.specs.Store.{Store, ledInto, slotTargets, targetsIn, ledIn, ledAmongIn}
-use Rattle.outcomes.specs.Outcome.{badLength, dead, checks, refusal, recounted, outgoing, newlyCounted, newlyIn, deleted, store, blank}
+use Rattle.outcomes.specs.Outcome.{Accepted, badLength, dead, checks, refusal, recounted, outgoing, newlyCounted, newlyIn, deleted, store, blank}
 use Rattle.outcomes.specs.Examples.{_but_, setStanding, setWidths, setSlots, setDeclared, setSizes, setMarks, setGiven, setNames, setParents, setLevels, setCounts, setNewest, setOldest, setOwners, setTaken, reads}
 
 -- Regions 1 and 2 hold a page each. Kind 1 is one free word. Page 0 has an object, page 1 two: the first leads into region 1, the second into region 2 itself.
@@ -38,3 +38,8 @@ goes = refl
 refusals : map (λ (p : Store × ℕ). refusal (p .0) (delete (p .1) 3)) ((memory 0 0 0, 2) ∷ (memory 65 0 0, 2) ∷ (memory 0 1 0, 2) ∷ (memory 0 0 3, 2) ∷ (memory 65 1 3, 2) ∷ []) ≡ 0 ∷ 19 ∷ 19 ∷ 18 ∷ 18 ∷ []
 unfolding blank frameCount widthAt slotAt nameAt entryOf tagOf isLive parentAt subregionsOf countAt countIn added wrongLength ownerIn ownerOf ledInto badLength dead checks refusal entryIn subregionsIn wrongLengthIn ledIn ledAmongIn targetsIn
 refusals = refl
+
+-- region 2 holds a page, its subregion none
+gave : let S = memory 0 0 3 in Accepted (delete 2 1) S (gives (1 ∷ [])) (deleted S (2 ∷ []) 1) × Accepted (delete 3 1) S (gives (0 ∷ [])) (deleted S (3 ∷ []) 1)
+unfolding blank Accepted entryOf tagOf entryIn pagesIn pagesOf
+gave = ((refl, refl), (refl, refl))

@@ -6,6 +6,8 @@ use borrow.Author.Needs.{needs}
 use borrow.Author.Tests.{leb-true, leb-false, not-true, not-false}
 use Rattle.outcomes.specs.Outcome.{store}
 use Rattle.script.specs.Laws.Lines.{few-heard}
+use Rattle.state.specs.declared.State.{State}
+use Rattle.lent.specs.Lent.{stateOf}
 use Rattle.feed.specs.Scripted.{Scripted}
 use Rattle.feed.specs.Laws.Cuts.{scripted-none}
 use Rattle.feed.specs.Laws.Steps.{piece-within}
@@ -15,24 +17,24 @@ use Rattle.feed.proofs.feed.Tie as tie
 
 -- the bytes up to `at` have led to the session as it is, and the output used is their answers
 abbrev Inv-loop : tie.InvT-loop
-Inv-loop memory₀ line₀ chunk out₀ t₀ c₀ words₀ held₀ at₀ used₀ memory line out t c words held at used =
+Inv-loop memory₀ line₀ chunk out₀ standing₀ counted₀ declared₀ given₀ made₀ widths₀ slots₀ sizes₀ marks₀ names₀ parents₀ levels₀ shares₀ newest₀ oldest₀ owners₀ taken₀ c₀ words₀ held₀ at₀ used₀ memory line out standing counted declared given made widths slots sizes marks names parents levels shares newest oldest owners taken c words held at used =
     (length memory ≡ length memory₀) × (length line ≡ length line₀) × (length out ≡ length out₀) × (at ≤ length chunk) × (used ≤ length out) × (at ≡ 0 → used ≡ 0)
-    × (length memory₀ ≡ 16448 → length line₀ ≡ 4100 → Scripted (record { begun = take held₀ line₀; tally = c₀; store = store t₀ (take words₀ memory₀) }) (take at chunk) (take used out) (record { begun = take held line; tally = c; store = store t (take words memory) }))
+    × (length memory₀ ≡ 16448 → length line₀ ≡ 4100 → Scripted (record { begun = take held₀ line₀; tally = c₀; store = store (stateOf standing₀ counted₀ declared₀ given₀ made₀ widths₀ slots₀ sizes₀ marks₀ names₀ parents₀ levels₀ shares₀ newest₀ oldest₀ owners₀ taken₀) (take words₀ memory₀) }) (take at chunk) (take used out) (record { begun = take held line; tally = c; store = store (stateOf standing counted declared given made widths slots sizes marks names parents levels shares newest oldest owners taken) (take words memory) }))
 
 abbrev μ-loop : tie.MeasureT-loop
-μ-loop memory₀ line₀ chunk out₀ t₀ c₀ words₀ held₀ at₀ used₀ memory line out t c words held at used = length chunk - at
+μ-loop memory₀ line₀ chunk out₀ standing₀ counted₀ declared₀ given₀ made₀ widths₀ slots₀ sizes₀ marks₀ names₀ parents₀ levels₀ shares₀ newest₀ oldest₀ owners₀ taken₀ c₀ words₀ held₀ at₀ used₀ memory line out standing counted declared given made widths slots sizes marks names parents levels shares newest oldest owners taken c words held at used = length chunk - at
 
 loop-holds : tie.Need-loop-holds Inv-loop μ-loop
 loop-holds c = (refl, refl, refl, omega arith, omega arith, (λ _. refl), (λ _ _. scripted-none _))
 
 -- the line ends within the chunk
-end-within : (c : tie.After-line-end Inv-loop μ-loop) → (c .before .before .before .before .loop .at ≤ c .line-end .result) × (c .line-end .result ≤ length (c .before .before .before .before .before .before .before .before .before .before .before .args .chunk .now))
+end-within : (c : tie.After-line-end Inv-loop μ-loop) → (c .before .before .before .before .loop .at ≤ c .line-end .result) × (c .line-end .result ≤ length (c .before .before .before .before .before .before .before .before .before .before .before .before .before .before .before .before .before .before .before .before .before .before .args .chunk .now))
 end-within c =
     let l = c .before .before .before .before in
     (omega (arith, c .line-end .ensures), piece-within _ (l .loop .at) _ (c .line-end .ensures) (l .loop .inv .3))
 
 -- the buffer for a line has room for all that is kept, where it had at first
-line-room : (c : tie.After-keep Inv-loop μ-loop) → let l = c .before .before .before .before .before .before .before in length (l .before .before .before .before .before .before .before .args .line .now) ≡ 4100 → length (l .loop .line) ≡ 4100
+line-room : (c : tie.After-keep Inv-loop μ-loop) → let l = c .before .before .before .before .before .before .before in length (l .before .before .before .before .before .before .before .before .before .before .before .before .before .before .before .before .before .before .args .line .now) ≡ 4100 → length (l .loop .line) ≡ 4100
 line-room c e = c .before .before .before .before .before .before .before .loop .inv .1 ∙ e
 
 -- there is room for any answer
@@ -51,7 +53,7 @@ abbrev acted : tie.After-add-answer Inv-loop μ-loop → tie.After-acted Inv-loo
 acted c = c .before .before .before .before
 
 abbrev heard : tie.After-acted Inv-loop μ-loop → tie.After-heard Inv-loop μ-loop
-heard c = c .before .before .before
+heard c = c .before .before .before .before .before .before .before .before .before .before .before .before .before .before .before .before .before .before .before .before
 
 abbrev keeping : tie.After-heard Inv-loop μ-loop → tie.After-keep Inv-loop μ-loop
 keeping c = c .before .before .before .before .before .before .before
@@ -59,9 +61,13 @@ keeping c = c .before .before .before .before .before .before .before
 abbrev ending : tie.After-keep Inv-loop μ-loop → tie.After-line-end Inv-loop μ-loop
 ending c = c .before .before .before
 
+-- the state at the head of a turn
+abbrev held : tie.At-loop Inv-loop μ-loop → State
+held l = stateOf (l .loop .standing) (l .loop .counted) (l .loop .declared) (l .loop .given) (l .loop .made) (l .loop .widths) (l .loop .slots) (l .loop .sizes) (l .loop .marks) (l .loop .names) (l .loop .parents) (l .loop .levels) (l .loop .shares) (l .loop .newest) (l .loop .oldest) (l .loop .owners) (l .loop .taken)
+
 loop-again : tie.Need-loop-again Inv-loop μ-loop
 loop-again c =
-    let w = c .before in
+    let w = c in
     let ad = answered w in
     let ac = acted ad in
     let he = heard ac in
@@ -80,7 +86,7 @@ loop-again c =
           let kept = ke .keep .ensures r in
           let k : he .before .before .before .within .result - 0 ≡ ke .keep .result =
           omega (arith, he .before .before .before .within .ensures, kept .0, r, he .before .before .before .before .before .before .line .given) in
-          turned _ _ (l .loop .line) _ (l .loop .out) _ (l .loop .memory) _ (l .loop .at) _ (l .loop .used) _ (l .loop .held) (ke .keep .result) (l .loop .words) _ (l .loop .c) _ (l .loop .t) _ (he .heard .result) _
+          turned _ _ (l .loop .line) _ (l .loop .out) _ (l .loop .memory) _ (l .loop .at) _ (l .loop .used) _ (l .loop .held) (ke .keep .result) (l .loop .words) _ (l .loop .c) _ (held l) _ (he .heard .result) _
           (en .line-end .ensures)
           (he .before .before .before .before .if2 .taken)
           r
@@ -146,7 +152,7 @@ feed-spec =
     (λ c κs. search needs)
     (λ c. search needs)
     (λ c κs. search needs)
-    (λ c. omega (arith, end-within (ending (keeping (heard (acted (answered (c .before)))))), (heard (acted (answered (c .before)))) .before .before .before .before .if2 .taken))
+    (λ c. omega (arith, end-within (ending (keeping (heard (acted (answered c))))), (heard (acted (answered c))) .before .before .before .before .if2 .taken))
     loop-again
     (λ c. omega (arith, c .if2 .left, c .before .before .before .before .before .before .before .before .before .loop-test .taken))
     loop-again-2

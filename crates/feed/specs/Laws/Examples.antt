@@ -14,7 +14,7 @@ use Rattle.state.specs.declared.Reply.{Reply}
 use Rattle.frames.specs.Frames.{pushed}
 use Rattle.outcomes.specs.Store.{Store, frames}
 use Rattle.outcomes.specs.Outcome.{withFrames, Outcome, Accepted, MakeOutcome, badLength, checks, refusal, store, blank}
-use Rattle.store.specs.Dispatch.{lastCall as lastNumber, decoded}
+use Rattle.dispatch.specs.Dispatch.{lastCall as lastNumber, decoded}
 use Rattle.script.specs.Script.{bytes, blank as isBlank, inWord, tokens, value, lastCall, names, wordNames, least, most, fillers, placed, named, callOf, takes, allowed, zeros, line, bad, given, called, acting, said, scanned, mark, unmarked, fitting, heard}
 use Rattle.lines.specs.Lines.{numeral, decimal, column, lineOf, badOf, summaryOf}
 use Rattle.guide.specs.Guide.{help, whyOf}

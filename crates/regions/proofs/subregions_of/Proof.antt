@@ -24,12 +24,12 @@ Inv-loop names parents t k₀ i₀ k i = (i ≤ 64) × (k ≡ countOf (below nam
 abbrev μ-loop : tie.MeasureT-loop
 μ-loop names parents t k₀ i₀ k i = 64 - i
 
-adds : (c : tie.Joined1 Inv-loop μ-loop) → let l = c .before .before .before in c .if1 .k ≡ l .loop .k + bit (below (l .before .before .before .args .names .now) (l .before .before .before .args .parents .now) (l .before .before .before .args .t) (l .loop .i))
+adds : (c : tie.Joined1 Inv-loop μ-loop) → let l = c .before .before .before .before in c .if1 .k ≡ l .loop .k + bit (below (l .before .before .before .args .names .now) (l .before .before .before .args .parents .now) (l .before .before .before .args .t) (l .loop .i))
 adds c =
-    rw (← c .before .name-at .ensures)
+    rw (← c .before .before .name-at .ensures, ← c .before .parent-at .ensures)
     (⊎-elim
-    (λ w. rw (← w .1 .ensures, ne-eqb _ _ (w .0 .taken), eq-eqb _ _ (w .2 .taken)) (w .3))
-    (λ v. ⊎-elim (λ w. rw (← w .1 .ensures, ne-eqb _ _ (w .0 .taken), ne-eqb _ _ (w .2 .left)) (omega arith)) (λ w. rw (eq-eqb _ _ (w .0 .left)) (omega arith)) v)
+    (λ w. rw (ne-eqb _ _ (w .0 .taken), eq-eqb _ _ (w .1 .taken)) (w .2))
+    (λ v. ⊎-elim (λ w. rw (ne-eqb _ _ (w .0 .taken), ne-eqb _ _ (w .1 .left)) (omega arith)) (λ w. rw (eq-eqb _ _ (w .0 .left)) (omega arith)) v)
     (c .if1 .came))
 
 add-k : tie.Need-add-k Inv-loop μ-loop
@@ -40,7 +40,7 @@ add-k c =
 
 loop-again : tie.Need-loop-again Inv-loop μ-loop
 loop-again c =
-    let l = c .before .before .before in
+    let l = c .before .before .before .before in
     omega (arith, adds c, count-next (below (l .before .before .before .args .names .now) (l .before .before .before .args .parents .now) (l .before .before .before .args .t)) (l .loop .i))
 
 returns : tie.Need-returns Inv-loop μ-loop

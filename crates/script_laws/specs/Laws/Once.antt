@@ -12,7 +12,7 @@ use Rattle.model.specs.Calls.{makes}
 use Rattle.state.specs.declared.Reply.{Reply}
 use Rattle.outcomes.specs.Store.{Store}
 use Rattle.outcomes.specs.Outcome.{MakeBy, MakeOutcome, store, blank}
-use Rattle.store.specs.Dispatch.{isCall}
+use Rattle.dispatch.specs.Dispatch.{isCall}
 use Rattle.script.specs.declared.Line.{Line}
 use Rattle.script.specs.Script.{heard}
 use Rattle.actions.specs.Acts.{lineCall, printed, CalledBy, Called, Makes, ActsBy, Acts}

@@ -16,7 +16,7 @@ use Rattle.state.specs.declared.Reply.{Reply}
 use Rattle.outcomes.specs.Store.{Store}
 use Rattle.outcomes.specs.Outcome.{MakeBy, MakeOutcome, store}
 use Rattle.outcomes.specs.Runs.{Event, calls, answers, Run, done, step}
-use Rattle.store.specs.Dispatch.{isCall}
+use Rattle.dispatch.specs.Dispatch.{isCall}
 use Rattle.script.specs.declared.Line.{Line}
 use Rattle.script.specs.Script.{heard}
 use Rattle.script.specs.Laws.Lines.{few-heard}
