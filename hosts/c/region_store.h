@@ -30,7 +30,7 @@
 //  - The heap is s->words words long and stays where it is, as long as the store is used. Store, heap, list and reply do not overlap, and only calls write the heap.
 //  - A store is filled by rs_make or rs_file_load before any other call.
 //  - Pointers are aligned as their types are. To the functions rs_* a null list counts as an empty one, and to rs_make a null heap; no other pointer may be null, nor s->heap. (The functions region_store_* take no null pointer at all: see there.)
-//  - A call takes up to 20 KiB of stack, and one by its name less than 4 KiB but rs_audit and rs_delete_all, beside what a thread takes by itself: small threads, coroutines and signal stacks may have less.
+//  - A call takes up to 21 KiB of stack, and one by its name less than 4 KiB but rs_audit and rs_delete_all, beside what a thread takes by itself: small threads, coroutines and signal stacks may have less.
 // Whatever bytes the state and the heap hold, every call ends, touches only what it is lent, and answers (this is proved). But what a call answers is right only for a store that rs_make made, or for one that rs_audit finds sound, and that only calls have changed since.
 //
 // A struct rs_store may be copied or moved: nothing in it points into it. Two copies share one heap, so only one of them may be used.

@@ -30,7 +30,7 @@ pointers are aligned and never null, also where a length is 0; the buffers do no
 where they are, and live as long as the library may use them; lengths are true; one caller at a
 time (see Store). The library was proved to end, to touch only what it is lent and to answer,
 whatever numbers the memory holds. What is left to the program: heap and view are read-only, and
-whoever gets round that writes into the store itself; and a call takes up to 20 KiB of stack, beside
+whoever gets round that writes into the store itself; and a call takes up to 21 KiB of stack, beside
 what the interpreter takes, which threads have unless threading.stack_size gives them less.
 
 The library is looked for in this order: the file that the environment variable

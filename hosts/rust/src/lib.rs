@@ -46,7 +46,7 @@
 //! | lends buffers that do not overlap, with their true lengths | a [`Store`] owns its state and its heap; a list is another borrow than the `&mut` of a call that writes |
 //! | has one caller at a time | calls that act take `&mut self`, and [`Store`] is not [`Sync`]; it is [`Send`], so a store may move to another thread |
 //! | works with the library that it was written for | the layout is compared when a store is first made or loaded, and another one is a panic; so is a refusal whose number this crate does not know |
-//! | has the stack that a call takes, up to 20 KiB, and for all methods but audit and delete_all less than 4, beside what a thread takes by itself | the main thread has some MiB, and a thread of [`std::thread`] 2 MiB, unless told otherwise; [`Store::from_file`] takes up to 48 KiB |
+//! | has the stack that a call takes, up to 21 KiB, and for all methods but audit and delete_all less than 4, beside what a thread takes by itself | the main thread has some MiB, and a thread of [`std::thread`] 2 MiB, unless told otherwise; [`Store::from_file`] takes up to 48 KiB |
 //! | keeps no part of the heap over a call that writes it | [`Store::view`] and [`Store::heap`] borrow the store: while one is held, only calls that ask can be made |
 //!
 //! Two threads cannot ask one store at once:
