@@ -1,5 +1,5 @@
-// Regions taken apart, ticked by tag: scanned for their references to others, then given back (source document 000, chapter 4.5; the scan is its Figure 4.5, in chapter 4.3.1). Both deletes go by these
-// two functions. The figure goes through a region's blocks; no list of a region's pages is kept here, so all pages are gone through, and each is asked whose it is.
+// Regions taken apart, ticked by tag: scanned for their references to others, then given back (source document 000, chapter 4.5; the scan is its Figure 4.5, in chapter 4.3.1). Delete goes
+// by `scan_held` and `give_back_one`, the joint delete by `scan` and `give_back`. The figure goes through a region's blocks; no list of a region's pages is kept here, so all pages are gone through, and each is asked whose it is.
 ghost use mathlib.Core.Path.{_≡_};
 ghost use Prim.Native.Nat.{_<_};
 ghost use lib.Dec.{eqb};

@@ -1,4 +1,4 @@
-// The calls that fill or clear slots of the top frame: first, copy, fetch and clear (document 01's calls 9 to 12). Each stands once, in place, on what is lent of the state, and by value over that.
+// The calls that fill or clear slots of the top frame: first, copy, fetch and clear (document 01's calls 9 to 12). Each stands in place, on what is lent of the state.
 use state::Reply;
 ghost use Rattle.model.specs.Model.{first, copy, fetch, clear};
 ghost use Rattle.lent.specs.Lent.{InPlace, withMade, withStanding, withWidths, withSlots, withNames, withOldest};
