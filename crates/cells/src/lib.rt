@@ -1,4 +1,6 @@
 // Reads and writes that are total: an index past the end reads 0 and writes nothing, as get_or and set do. A word has 32 bits, a half 16, a byte 8.
+#![tactic(auto)]
+
 ghost use Rattle.std.specs.Prelude.{◌≡◌, ◌∷◌, ◌-◌, ◌<◌, ◌≤◌, min, eqb, length, get_or, set, take, drop, replicate};
 ghost use Rattle.lists.specs.Lists.{find_or, count_of, up_to};
 ghost use Rattle.std.proofs.lemmas.List.Edits.{sets};

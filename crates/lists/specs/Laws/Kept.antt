@@ -107,7 +107,10 @@ repeats_once [] e q = omega arith
 repeats_once (x ∷ xs) e q =
     let d = neither (among x xs) (repeats xs) e in
     by_test (eqb x q)
-    (λ t. rw (t, ← eqb-true x q t) (omega (arith, ltb-false 0 (times x xs) (sym (any_count (λ y. eqb y x) xs) ∙ d.0))))
+    (λ t.
+    let none : times x xs ≤ 0 = omega (arith, ltb-false 0 (times x xs) (sym (any_count (λ y. eqb y x) xs) ∙ d.0)) in
+    let h : times q xs ≤ 0 = subst (λ z. times z xs ≤ 0) (eqb-true x q t) none in
+    rw t (omega arith))
     (λ t. rw t (omega (arith, repeats_once xs d.1 q)))
 
 pub once_repeats : (l : List ℕ) → ((q : ℕ) → times q l ≤ 1) → repeats l ≡ false
