@@ -1,4 +1,6 @@
 // The stack of frames, a part of the state held by value. The functions take what they read: numbers, and arrays lent.
+#![tactic(auto)]
+
 ghost use Rattle.std.specs.Prelude.{◌≡◌, ◌+◌, ◌*◌, set, replicate};
 ghost use Rattle.std.proofs.lemmas.List.Edits.{sets};
 ghost use Rattle.frames.specs.Frames.{frame_count_in, top_in, width_in, slot_in, uncounts_in, counted_after};
