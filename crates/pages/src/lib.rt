@@ -1,4 +1,6 @@
 // The pages of the heap, a part of the state held by value. The functions take what they read: numbers, and arrays lent.
+#![tactic(auto)]
+
 ghost use Rattle.std.specs.Prelude.{◌≡◌, get_or, set};
 ghost use Rattle.pages.specs.Pages.{wrong_length_in, page_count_in, taken_in, owner_in, page_of, word_of, first_free_in, pages_in};
 
