@@ -1,4 +1,6 @@
 // The kinds declared, a part of the state held by value. The functions take what they read: numbers, and arrays lent.
+#![tactic(auto)]
+
 ghost use Rattle.std.specs.Prelude.{◌≡◌, map, ◌%◌, eqb, ltb, set};
 ghost use Rattle.std.proofs.lemmas.List.Edits.{sets};
 ghost use Rattle.lists.specs.Lists.{any_of, every, up_to};
