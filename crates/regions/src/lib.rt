@@ -1,4 +1,6 @@
 // The region entries, a part of the state held by value. The functions take what they read: numbers, and arrays lent.
+#![tactic(auto)]
+
 ghost use Rattle.std.specs.Prelude.{◌≡◌, ◌+◌, ◌*◌, ◌%◌, replicate, slice_index, slice_set};
 ghost use Rattle.std.proofs.lemmas.List.Edits.{sets};
 ghost use Rattle.regions.specs.Regions.{name_in, entry_in, unused_in, live_in, subregions_in, share_in, count_in};
