@@ -1,4 +1,6 @@
 // The state of a store, by value, in four parts, and what a call gives back.
+#![tactic(auto)]
+
 use frames::Frames;
 use kinds::Kinds;
 use pages::Pages;
