@@ -1,4 +1,6 @@
 // Whether a word's mark allows where a pointer leads: the climb from a region to those above.
+#![tactic(auto)]
+
 ghost use Rattle.std.specs.Prelude.{◌≡◌, map, min};
 ghost use Rattle.lists.specs.Lists.{among};
 ghost use Rattle.model.specs.Model.{climb};
