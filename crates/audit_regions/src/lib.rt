@@ -1,4 +1,6 @@
 // The audit's tests of regions: names, levels, and the regions above.
+#![tactic(auto)]
+
 ghost use Rattle.std.specs.Prelude.{◌≡◌};
 ghost use Rattle.audit_regions.specs.Filed.{placed_at, namesakes, region_fits, entry_fits, regions_fit};
 
