@@ -1,4 +1,6 @@
 // Numbers that go with a scanned line: where its filler stands among those of its call, and how many words of a memory are the heap after it.
+#![tactic(auto)]
+
 ghost use Rattle.std.specs.Prelude.{◌≡◌, ◌*◌, eqb};
 ghost use Rattle.lists.specs.Lists.{pick};
 ghost use Rattle.numbers.specs.Numbers.{filler_place, words_after};
