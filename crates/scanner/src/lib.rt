@@ -1,4 +1,6 @@
 // What a line of a script says: a call of the store by name or number, its arguments, and the filler that it names; or a word that is no call. Every function takes any bytes.
+#![tactic(auto)]
+
 ghost use Rattle.std.specs.Prelude.{◌≡◌, List, [], map, ℕ, drop};
 ghost use Rattle.script.specs.Script.{tokens, value, call_of, line, given, called, acting, scanned, fitting, heard};
 
