@@ -1,16 +1,18 @@
 // Printed lines: for a call its place, the refusal and four values; for a bad line of a script a `?` and its number; for a summary a `=` and four counts.
 // They are gathered in a buffer that the caller lends, of which the first `at` bytes are used, and go out together.
+#![tactic(auto)]
+
 ghost use Rattle.lines.specs.Lines.{Added, decimal, column as Lines·column, line_of, bad_of, summary_of};
 
-use libc::STDOUT_FILENO;
 use state::Reply;
+use std::io::Print;
 
 // Writes the first `at` bytes of a buffer, as far as it has them, and tells whether all were taken.
-pub fn flush(out: &[u8], at: usize) -> bool {
+pub fn flush(rt: &impl Print, out: &[u8], at: usize) -> bool {
     if at <= out.len() {
-        io::write_all(STDOUT_FILENO, &out[0..at])
+        rt.write_all(&out[0..at]).is_ok()
     } else {
-        io::write_all(STDOUT_FILENO, out)
+        rt.write_all(out).is_ok()
     }
 }
 
@@ -24,7 +26,9 @@ pub fn add(out: &mut [u8], at: usize, s: &[u8]) -> usize
     if out.len() - at < s.len() {
         return at;
     }
-    at + bytes::copy(s, &mut out[at..])
+    let end = at + s.len();
+    out[at..end].copy_from_slice(s);
+    end
 }
 
 // Adds a number in decimal.
@@ -86,8 +90,8 @@ pub fn add_summary(
 }
 
 // Prints a call's line by itself: at most six numbers of ten digits, five spaces and the newline.
-pub fn line(place: u32, r: Reply) {
+pub fn line(rt: &impl Print, place: u32, r: Reply) {
     let mut out = [0u8; 66];
     let n = add_line(&mut out, 0, place as u64, r);
-    flush(&out, n);
+    flush(rt, &out, n);
 }
