@@ -1,4 +1,6 @@
 // What a script can ask: the calls with their arguments, and why a refusal's number is given.
+#![tactic(auto)]
+
 ghost use Rattle.std.specs.Prelude.{◌≡◌, [], get_or};
 ghost use Rattle.lines.specs.Lines.{Added};
 ghost use Rattle.guide.specs.Text.{lines_of};
