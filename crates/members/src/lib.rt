@@ -1,4 +1,6 @@
 // The regions that a list names, known together: ticks by tag, 1 for a member. What is wrong with the list itself, and with its names one by one.
+#![tactic(auto)]
+
 ghost use Rattle.std.specs.Prelude.{◌≡◌, map, drop};
 ghost use Rattle.lists.specs.Lists.{among};
 ghost use Rattle.model.specs.Calls.{reason, wrong_names, name_tests};

@@ -1,4 +1,6 @@
 // Objects in the heap that a call is given. Who reads an object's kind, mark or words gets the part of the heap that begins at its header.
+#![tactic(auto)]
+
 ghost use Rattle.std.specs.Prelude.{◌≡◌, [], ◌∷◌, ◌+◌, ◌≤◌, set};
 ghost use Rattle.kinds.specs.Kinds.{kinds_with, size_in, mark_in};
 ghost use Rattle.regions.specs.Laws.Steps.{leavings};
