@@ -1,4 +1,6 @@
 // What a session that a script drives has counted, what is kept of a line, and what is printed for one. No function here has a store, reads input or writes output.
+#![tactic(auto)]
+
 ghost use Rattle.std.specs.Prelude.{◌≡◌, ◌+◌, ◌≤◌, not, ◌&&◌, ◌++◌, length, take, ◌==◌, nat_le};
 ghost use Rattle.lists.specs.Lists.{pick};
 ghost use Rattle.lines.specs.Lines.{Added};
