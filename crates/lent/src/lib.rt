@@ -1,4 +1,6 @@
 // Arrays laid back into a state, for the calls by value over those in place, and what view gives in place. What the calls in place promise stands in specs/.
+#![tactic(auto)]
+
 ghost use Rattle.std.specs.Prelude.{◌≡◌};
 
 // The refusal's number, and the object's part of the heap by its place and its length, both 0 where there is none.
