@@ -13,9 +13,9 @@ FNR == 1 || /^$/ { name = "" }
 
 /^ *--/ { next }
 
-/ : (List )?Row *(--.*)?$/ && !/^(abbrev |unfoldable )?(pub )?[A-Za-z0-9]+ : (List )?Row$/ { fail("this line cannot be read: " $0) }
+/ : (List )?Row *(--.*)?$/ && !/^(abbrev |unfoldable )?(pub )?[A-Za-z0-9_]+ : (List )?Row$/ { fail("this line cannot be read: " $0) }
 
-/^(abbrev |unfoldable )?(pub )?[A-Za-z0-9]+ : / {
+/^(abbrev |unfoldable )?(pub )?[A-Za-z0-9_]+ : / {
     sub(/^(abbrev |unfoldable )?(pub )?/, "")
     name = $1
     if (part == "calls" && name != "numbered" && name != "calls") {
@@ -23,7 +23,7 @@ FNR == 1 || /^$/ { name = "" }
         next
     }
     if (name in type) fail(name " is defined twice")
-    sub(/^[A-Za-z0-9]+ : /, "")
+    sub(/^[A-Za-z0-9_]+ : /, "")
     type[name] = $0
     body[name] = ""
     if (type[name] == "Row") rows[++rows_read] = name
@@ -152,7 +152,7 @@ function take_word(w) {
     at++
 }
 
-function opens(w) { return w ~ /^[A-Za-z0-9]+$/ || w == "(" || w == "[]" }
+function opens(w) { return w ~ /^[A-Za-z0-9_]+$/ || w == "(" || w == "[]" }
 
 function atom(    w, v, none) {
     w = next_word()

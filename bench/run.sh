@@ -4,7 +4,8 @@
 # Needs rt, gcc, valgrind and python3, and cargo for Rust. Writes only under target/. The times want a machine with nothing else to do.
 set -euo pipefail
 cd "$(dirname "$0")/.."
-out=target/bench
+out=$PWD/target/bench
+drive=$PWD/crates/drive/out/drive
 mkdir -p "$out"
 export PYTHONDONTWRITEBYTECODE=1
 export CARGO_TARGET_DIR="$PWD/target/hosts/cargo"
@@ -54,11 +55,11 @@ least() { # COMMAND..: the least processor time of five runs, in seconds
 }
 
 drive() { # with as much stack as it may take
-    (ulimit -s 512 && target/bin/drive <"$1" >/dev/null)
+    (ulimit -s 512 && "$drive" <"$1" >/dev/null)
 }
 
-quiet rt staticlib bench
-quiet gcc -O2 -Wall -Wextra -o "$out/bench" bench/bench.c target/staticlib/libbench.a
+(cd crates/bench && quiet rt lib)
+quiet gcc -O2 -Wall -Wextra -o "$out/bench" bench/bench.c crates/bench/out/libbench.a
 quiet hosts/build
 quiet gcc -std=c99 -O2 -o "$out/c" hosts/c/cost.c target/hosts/libregion_store.a
 quiet cargo build --manifest-path hosts/rust/Cargo.toml --offline --locked --release --quiet --example cost
@@ -82,12 +83,12 @@ done
 [ $# -eq 0 ] || exit 0
 
 # Scripts with few reports and audits, and with many: of 1 MiB the instructions of a line, of 10 million bytes the time, printed to nowhere.
-quiet rt check drive
+(cd crates/drive && quiet rt run </dev/null)
 for rates in '10 1' '140 5'; do
     # shellcheck disable=SC2086
     python3 bench/script.py $rates 1048576 >"$out/script" 2>"$out/log"
     quiet drive "$out/script"
-    line=$(($(collected '' target/bin/drive <"$out/script") / $(wc -l <"$out/script")))
+    line=$(($(collected '' "$drive" <"$out/script") / $(wc -l <"$out/script")))
     # shellcheck disable=SC2086
     said=$(python3 bench/script.py $rates 2>&1 >"$out/script")
     quiet drive "$out/script"

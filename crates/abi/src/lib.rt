@@ -1,12 +1,11 @@
-// The store for hosts in other languages: functions that C can call, on memory that the host lends. The state is lent as thirteen arrays, its numbers first, then its arrays in the order of its parts.
+// The store for hosts in other languages: functions on memory that the host lends, which abi_c has C call. The state is lent as thirteen arrays, its numbers first, then its arrays in the order of its parts.
 // Pointers are aligned and not null, also where a length is 0, lengths are true, and no two buffers overlap: that the host answers for. Whatever the memory holds, the calls are safe, end and have their outcomes; what the outcomes say of memory that the audit rejects is more than document 01 fixes.
 ghost use Rattle.std.specs.Prelude.{◌≡◌, [], ◌∷◌, length};
 ghost use Rattle.std.proofs.lemmas.List.Edits.{sets};
 ghost use Rattle.abi.specs.Memory.{Made, Called, Viewed, layout};
 
 // Make: what the arrays held does not matter. The reply is the refusal's number, 0 where the call was accepted, and four values.
-#[unsafe(no_mangle)]
-pub extern "C" fn region_store_make(
+pub fn region_store_make(
     numbers: &mut [u32; 5],
     widths: &mut [u8; 32],
     slots: &mut [u32; 256],
@@ -64,8 +63,7 @@ fn five(numbers: [u32; 5])
 {}
 
 // Any call but make, by its number, as `store::call_in` takes it.
-#[unsafe(no_mangle)]
-pub extern "C" fn region_store_call(
+pub fn region_store_call(
     numbers: &mut [u32; 5],
     widths: &mut [u8; 32],
     slots: &mut [u32; 256],
@@ -137,8 +135,7 @@ pub extern "C" fn region_store_call(
 }
 
 // View: the refusal's number, and the part as its place and its length in the heap, both 0 where there is none.
-#[unsafe(no_mangle)]
-pub extern "C" fn region_store_view(
+pub fn region_store_view(
     numbers: &[u32; 5],
     widths: &[u8; 32],
     slots: &[u32; 256],
@@ -169,8 +166,7 @@ pub extern "C" fn region_store_view(
 }
 
 // Audit by itself, for a host that asks whether memory is a store before it makes any call on it. It is also what keeps audit's own 16 KB of stack out of region_store_call: the compiler puts a function that is called in two places into neither.
-#[unsafe(no_mangle)]
-pub extern "C" fn region_store_audit<'a>(
+pub fn region_store_audit<'a>(
     numbers: &[u32; 5],
     widths: &'a [u8; 32],
     slots: &'a [u32; 256],
@@ -214,8 +210,7 @@ fn write(out: &mut [u32], l: &[u32])
 }
 
 // The layout: its version, then for each array the bytes of an element and how many elements there are; written as far as there is room. Gives how many numbers a layout has, whether there was room for them or not.
-#[unsafe(no_mangle)]
-pub extern "C" fn region_store_layout(out: &mut [u32]) -> usize
+pub fn region_store_layout(out: &mut [u32]) -> usize
     ensures { (out.new ≡ sets out.old 0 layout) × (result ≡ length layout) }
 {
     let l = [
