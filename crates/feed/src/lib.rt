@@ -10,7 +10,7 @@ use state::{Reply, State};
 use tally::Tally;
 
 // A session: the state of its store, how many words its heap has, what it has counted, and how many bytes are kept of the line that has not ended. Of the chunk fed last, how far it got, and how many bytes its answers took.
-#[derive(Drop)]
+#[derive(Clone, Copy)]
 pub struct Session {
     pub state: State,
     pub words: usize,

@@ -6,7 +6,7 @@ ghost use Rattle.std.proofs.lemmas.List.Edits.{sets};
 ghost use Rattle.frames.specs.Frames.{frame_count_in, top_in, width_in, slot_in, uncounts_in, counted_after};
 
 // Frame 0 is the lowest. Slot s of frame i stands at 8 * i + s. `counted` is document 01's m: the lowest `counted` frames are counted.
-#[derive(Drop)]
+#[derive(Clone, Copy)]
 pub struct Frames {
     pub standing: u32,
     pub counted: u32,

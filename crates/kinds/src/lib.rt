@@ -7,7 +7,7 @@ ghost use Rattle.lists.specs.Lists.{any_of, every, up_to};
 ghost use Rattle.kinds.specs.Kinds.{kind_count_in, size_in, mark_in, wrong_marks};
 
 // Kind k, from 1 on, has sizes[k - 1] words; the mark of its word w stands at 16 * (k - 1) + w.
-#[derive(Drop)]
+#[derive(Clone, Copy)]
 pub struct Kinds {
     pub declared: u32,
     pub sizes: [u8; 16],

@@ -4,7 +4,7 @@
 ghost use Rattle.std.specs.Prelude.{◌≡◌};
 
 // The refusal's number, and the object's part of the heap by its place and its length, both 0 where there is none.
-#[derive(Drop)]
+#[derive(Clone, Copy)]
 pub struct View {
     pub refusal: u32,
     pub place: u32,

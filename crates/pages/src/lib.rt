@@ -5,7 +5,7 @@ ghost use Rattle.std.specs.Prelude.{◌≡◌, get_or, set};
 ghost use Rattle.pages.specs.Pages.{wrong_length_in, page_count_in, taken_in, owner_in, page_of, word_of, first_free_in, pages_in};
 
 // owners: the tag of the region that holds the page (its entry plus 1), 0 for a free page. taken: how many words of the page objects fill.
-#[derive(Drop)]
+#[derive(Clone, Copy)]
 pub struct Pages {
     pub made: u32,
     pub owners: [u8; 256],

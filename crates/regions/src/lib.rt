@@ -9,7 +9,7 @@ ghost use Rattle.regions.specs.Laws.Steps.{entering, leaving};
 
 // names: 0 for an entry not in use. parents: the entry above plus 1, 0 for none. newest: a page plus 1, 0 for none.
 // oldest: a pointer, 0 for none. shares: filler f's share of the count of entry i at 4 i + f. `given` is the last name given.
-#[derive(Drop)]
+#[derive(Clone, Copy)]
 pub struct Regions {
     pub given: u32,
     pub names: [u32; 64],

@@ -8,7 +8,7 @@ ghost use Rattle.script.specs.Found.{NextWord, LineAt};
 
 // A line: `call` is one of the numbers below.
 // The filler is the one that `as` names, 0 where none is named. The arguments are the first `count` of `args`, and the others are 0.
-#[derive(Drop)]
+#[derive(Clone, Copy)]
 pub struct Line {
     pub call: u32,
     pub filler: u32,
@@ -32,7 +32,7 @@ pub const WHY: u32 = 254;
 pub const NO_CALL: u32 = 255;
 
 // Where a word begins, and where it ends.
-#[derive(Drop)]
+#[derive(Clone, Copy)]
 pub struct Span {
     pub from: usize,
     pub to: usize,

@@ -6,7 +6,7 @@ use kinds::Kinds;
 use pages::Pages;
 use regions::Regions;
 
-#[derive(Drop)]
+#[derive(Clone, Copy)]
 pub struct State {
     pub frames: Frames,
     pub kinds: Kinds,
@@ -15,7 +15,7 @@ pub struct State {
 }
 
 // The refusal's number, 0 where the call was accepted, and four values, 0 where there is none.
-#[derive(Drop)]
+#[derive(Clone, Copy)]
 pub struct Reply {
     pub refusal: u32,
     pub a: u32,
@@ -25,7 +25,7 @@ pub struct Reply {
 }
 
 // What a call that can change the state gives: the state as it left it, and the reply.
-#[derive(Drop)]
+#[derive(Clone, Copy)]
 pub struct Done {
     pub state: State,
     pub reply: Reply,

@@ -16,7 +16,7 @@ const KEPT: usize = 4100;
 const LONGEST: usize = 1024;
 
 // What a session has counted: whether no line has ended yet, its stage (0 before `pages`, 1 where make refused the last one, 2 where a store is made), lines, accepted and refused calls, and bad lines.
-#[derive(Drop)]
+#[derive(Clone, Copy)]
 pub struct Tally {
     pub first: bool,
     pub stage: u32,
