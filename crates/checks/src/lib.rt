@@ -1,4 +1,6 @@
 // Replies, the tests that several calls share, and the shares that the pointers of a frame enter or leave.
+#![tactic(auto)]
+
 ghost use Rattle.std.specs.Prelude.{◌≡◌, [], ◌∷◌, ◌-◌};
 ghost use Rattle.frames.specs.Frames.{top_in, slot_in};
 ghost use Rattle.regions.specs.Laws.Steps.{enterings, leavings};
