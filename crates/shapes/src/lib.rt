@@ -1,4 +1,6 @@
 // What the types of the language say of every state. The function does nothing and gives nothing: its contract is what it is for.
+#![tactic(auto)]
+
 ghost use Rattle.std.specs.Prelude.{List, ℕ};
 ghost use Rattle.outcomes.specs.Shape.{Bits32, Shaped};
 ghost use Rattle.outcomes.specs.Outcome.{store};
