@@ -1,4 +1,6 @@
 // The audit's tests of pages, and the headers of objects: they are ticked once, in an array with a byte for each word of the heap.
+#![tactic(auto)]
+
 ghost use Rattle.std.specs.Prelude.{◌≡◌, ◌≤◌};
 ghost use Rattle.lists.specs.Ticks.{ticked, tick_at};
 ghost use Rattle.audit_heap.specs.Heap.{headers_in, filled_to, page_fits, pages_fit, headers_held, all_headers};
