@@ -1,5 +1,7 @@
 // README's first example: it prints 19.
-use libc::STDOUT_FILENO;
+#![tactic(auto)]
+
+use std::io;
 
 // A store of one page: a region, an object in it, and why the region cannot go while a slot leads there.
 fn example() -> u32 {
@@ -14,7 +16,7 @@ fn example() -> u32 {
     e.reply.refusal
 }
 
-fn main() {
-    io::print_decimal(STDOUT_FILENO, example() as u64);
-    io::write_all(STDOUT_FILENO, b"\n");
+fn main(rt: HostRuntime) -> io::Result<()> {
+    let refusal = example();
+    println!(rt; "{refusal}")
 }

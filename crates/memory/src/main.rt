@@ -2,10 +2,13 @@
 // (document 02, card 4). They are compared five times, with a line for each: its place, 0, the words of a heap, and how many of them from the start on are the same in both: none before make, and 1 the
 // last time, when another number was put in each. Then four fillers and their shares of the counts (document 02, card 5): a session, in which each call that has a line has two more, for the shares of two
 // regions: the region's name, 0, and the shares of fillers 0 to 3, zeros where no region has that name.
+#![tactic(auto)]
+
 ghost use Rattle.std.specs.Prelude.{◌≡◌, not, ◌==◌, slice_index};
 ghost use Rattle.lists.specs.Lists.{find_or, up_to};
 
 use state::{Reply, State};
+use std::io::Print;
 use trials::{
     ALLOCATE, AUDIT, CLEAR, DELETE, DELETE_ALL, DROP, HAND_BACK, NEW_REGION, PUSH, PUT, REPORT,
     SET_POINTER, SUBREGION, called, plays, with_kind,
@@ -31,8 +34,9 @@ fn alike(a: &[u32], b: &[u32], n: u32) -> u32
 }
 
 // A line for a comparison.
-fn compared(place: u32, a: &[u32], b: &[u32]) {
+fn compared(rt: &impl Print, place: u32, a: &[u32], b: &[u32]) {
     lines::line(
+        rt,
         place,
         Reply {
             refusal: 0,
@@ -117,31 +121,32 @@ fn refilled(s: State, heap: &mut [u32]) -> State {
 }
 
 // The two stores.
-fn twins() {
+fn twins(rt: &impl Print) {
     let mut a = [7u32; 384];
     let mut b = [4294967295u32; 384];
-    compared(1, &a, &b);
+    compared(rt, 1, &a, &b);
     let s = opened(&mut a);
     let t = opened(&mut b);
-    compared(2, &a, &b);
+    compared(rt, 2, &a, &b);
     let s = filled(s, &mut a);
     let t = filled(t, &mut b);
-    compared(3, &a, &b);
+    compared(rt, 3, &a, &b);
     let s = refilled(s, &mut a);
     let t = refilled(t, &mut b);
-    compared(4, &a, &b);
+    compared(rt, 4, &a, &b);
     // what differs is found: another number in word 0 of the object in slot 1, which stands at the start of page 0
     plays(s, &mut a, &[[PUT, 1, 0, 1, 0]]);
     plays(t, &mut b, &[[PUT, 1, 0, 2, 0]]);
-    compared(5, &a, &b);
+    compared(rt, 5, &a, &b);
 }
 
 // ---- shares of the counts
 
 // A line for the shares of the region of that name.
-fn shares_of<'a>(names: &'a [u32], shares: &'a [u32], region: u32) {
+fn shares_of<'a>(rt: &impl Print, names: &'a [u32], shares: &'a [u32], region: u32) {
     let e = regions::entry_of(names, region);
     lines::line(
+        rt,
         region,
         Reply {
             refusal: 0,
@@ -154,17 +159,26 @@ fn shares_of<'a>(names: &'a [u32], shares: &'a [u32], region: u32) {
 }
 
 // A call with its line, and the shares of two regions after it.
-fn shown(s: State, heap: &mut [u32], place: u32, one: u32, other: u32, call: [u32; 5]) -> State {
+fn shown(
+    rt: &impl Print,
+    s: State,
+    heap: &mut [u32],
+    place: u32,
+    one: u32,
+    other: u32,
+    call: [u32; 5],
+) -> State {
     let d = called(s, heap, call[0], call[1], call[2], call[3], call[4]);
-    lines::line(place, d.reply);
+    lines::line(rt, place, d.reply);
     let g = d.state.regions;
-    shares_of(&g.names, &g.shares, one);
-    shares_of(&g.names, &g.shares, other);
+    shares_of(rt, &g.names, &g.shares, one);
+    shares_of(rt, &g.names, &g.shares, other);
     d.state
 }
 
 // Calls from that place on, each shown so.
 fn shows(
+    rt: &impl Print,
     s: State,
     heap: &mut [u32],
     first: u32,
@@ -178,15 +192,15 @@ fn shows(
     while i < calls.len() {
         let c = calls[i];
         i += 1;
-        t = shown(t, heap, place, one, other, c);
+        t = shown(rt, t, heap, place, one, other, c);
         place = std::num::wrapping_add_u32(place, 1);
     }
     t
 }
 
 // An object of region 1, and of regions 2 and 3 one each.
-fn triple(heap: &mut [u32]) -> State {
-    let s = with_kind(heap, &[1u32]);
+fn triple(rt: &impl Print, heap: &mut [u32]) -> State {
+    let s = with_kind(rt, heap, &[1u32]);
     plays(
         s,
         heap,
@@ -203,9 +217,10 @@ fn triple(heap: &mut [u32]) -> State {
 
 // Which shares of regions 2 and 3 move. Filler 1 has region 1's object lead into region 2, and filler 3 into region 3, where filler 0 has region 2's lead too. Filler 2 deletes region 4, which counts the
 // lower frame, and filler 1 drops the upper one. So region 2 has the shares 0, 0, 1 and 2^32 - 1, and filler 3 can delete it: its pointer into region 3 leaves that filler's share.
-fn singly(heap: &mut [u32]) -> State {
-    let s = triple(heap);
+fn singly(rt: &impl Print, heap: &mut [u32]) -> State {
+    let s = triple(rt, heap);
     shows(
+        rt,
         s,
         heap,
         9,
@@ -228,10 +243,11 @@ fn singly(heap: &mut [u32]) -> State {
 // That, and then hand back and a joint delete, with the shares of regions 3 and 5. Filler 0 clears region 1's pointer into region 3. It deletes region 6, by a list, which counts the lower frame with its
 // pointer into region 3, and filler 3 hands null back, to another slot of that frame, which is on top then and counted no more: the pointer leaves that filler's share. Filler 1 has region 3's object lead into region 5, and filler 2 deletes region 3, by a list: the pointer
 // leaves the share of filler 2.
-fn each_share() {
+fn each_share(rt: &impl Print) {
     let mut heap = [0u32; 192];
-    let s = singly(&mut heap);
+    let s = singly(rt, &mut heap);
     shows(
+        rt,
         s,
         &mut heap,
         18,
@@ -254,7 +270,7 @@ fn each_share() {
     );
 }
 
-fn main() {
-    twins();
-    each_share();
+fn main(rt: HostRuntime) {
+    twins(&rt);
+    each_share(&rt);
 }

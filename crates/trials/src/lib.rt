@@ -1,5 +1,8 @@
 // Calls on the store, one after the other, with a line for those that a program is about.
+#![tactic(auto)]
+
 use state::{Done, State};
+use std::io::Print;
 
 // The numbers of the calls that programs make, in document 01, and in document 02's cards.
 pub const MAKE: u32 = 1;
@@ -72,22 +75,31 @@ pub fn does(s: State, heap: &mut [u32], number: u32, a: u32, b: u32, c: u32) -> 
 }
 
 // A call made n times, with a line for the last, which begins with the call's number.
-pub fn shows(s: State, heap: &mut [u32], n: u32, number: u32, a: u32, b: u32, c: u32) -> State {
+pub fn shows(
+    rt: &impl Print,
+    s: State,
+    heap: &mut [u32],
+    n: u32,
+    number: u32,
+    a: u32,
+    b: u32,
+    c: u32,
+) -> State {
     let d = times(s, heap, n, number, a, b, c);
-    lines::line(number, d.reply);
+    lines::line(rt, number, d.reply);
     d.state
 }
 
 // Make, with its line.
-pub fn made(heap: &mut [u32]) -> State {
+pub fn made(rt: &impl Print, heap: &mut [u32]) -> State {
     let d = store::make(heap);
-    lines::line(MAKE, d.reply);
+    lines::line(rt, MAKE, d.reply);
     d.state
 }
 
 // Make, with its line, and a kind.
-pub fn with_kind(heap: &mut [u32], marks: &[u32]) -> State {
-    let s = made(heap);
+pub fn with_kind(rt: &impl Print, heap: &mut [u32], marks: &[u32]) -> State {
+    let s = made(rt, heap);
     let d = store::declare(s, heap, marks);
     d.state
 }
