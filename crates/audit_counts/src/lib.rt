@@ -1,4 +1,6 @@
 // The audit's test of the stored counts. Pointers leave a copy of the shares, all of them filler 0's: what is looked at then are the totals, and these are the same by whichever filler they leave.
+#![tactic(auto)]
+
 ghost use Rattle.std.specs.Prelude.{◌≡◌};
 ghost use Rattle.lists.specs.Lists.{joined, up_to};
 ghost use Rattle.kinds.specs.Kinds.{kinds_with};
