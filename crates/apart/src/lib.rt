@@ -1,5 +1,7 @@
 // Regions taken apart, ticked by tag: scanned for their references to others, then given back (source document 000, chapter 4.5; the scan is its Figure 4.5, in chapter 4.3.1). Delete goes
 // by `scan_held` and `give_back_one`, the joint delete by `scan` and `give_back`. The figure goes through a region's blocks; no list of a region's pages is kept here, so all pages are gone through, and each is asked whose it is.
+#![tactic(auto)]
+
 ghost use Rattle.std.specs.Prelude.{◌≡◌, ◌<◌, eqb, length, get_or};
 ghost use Rattle.lists.specs.Lists.{pick, count_of, up_to};
 ghost use Rattle.kinds.specs.Kinds.{kinds_with};
