@@ -1,4 +1,6 @@
 // The audit's tests of newest pages and oldest objects, and of slots. Pointers are looked up among the headers that audit_heap ticked.
+#![tactic(auto)]
+
 ghost use Rattle.std.specs.Prelude.{◌≡◌};
 ghost use Rattle.lists.specs.Ticks.{tick_at};
 ghost use Rattle.audit_slots.specs.Leads.{newest_fits, oldest_fits, entry_owns, entries_own, known, frame_leads, frames_lead};
