@@ -1,4 +1,6 @@
 // The calls on an object's data: put, get, view.
+#![tactic(auto)]
+
 ghost use Rattle.std.specs.Prelude.{◌≡◌, eqb};
 ghost use Rattle.lists.specs.Lists.{pick};
 ghost use Rattle.model.specs.Model.{put, get};
