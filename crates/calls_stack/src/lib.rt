@@ -1,4 +1,6 @@
 // The calls on the stack of frames: push, drop, hand_back.
+#![tactic(auto)]
+
 ghost use Rattle.std.specs.Prelude.{◌≡◌, [], ◌-◌};
 ghost use Rattle.lists.specs.Lists.{pick};
 ghost use Rattle.model.specs.Model.{push, drop_frame, hand_back};
