@@ -1,0 +1,45 @@
+use mathlib.Core.Path.{◌≡◌, ◌∙◌}
+use mathlib.Core.Bool.{Bool, true, false}
+use mathlib.Core.List.{List}
+use Prim.Native.Nat.{ℕ, ◌-◌, ◌≤◌, ◌<◌}
+use Rattle.lists.specs.Lists.{any_of, from, up_to}
+use Rattle.lists.specs.Laws.Finds.{any_map}
+use Rattle.lists.specs.Laws.UpTo.{any_one, none_any}
+use Rattle.frames.specs.Frames.{frame_count_in, width_in, slot_in}
+use Rattle.pages.specs.Pages.{owner_in}
+use Rattle.outcomes.specs.Store.{targets_in, led_among_in}
+use Rattle.lists.specs.Ticks.{tick_at}
+use Rattle.delete_parts.proofs.look.Given as goal
+
+module _ (widths slots owners members : List ℕ) (i : ℕ) where
+  abbrev pub into : ℕ → Bool
+  into k = tick_at members (owner_in owners (slot_in slots i k))
+
+  abbrev pub leads : Bool
+  leads = any_of (tick_at members) (targets_in widths slots owners i)
+
+  -- a frame leads into a member exactly if a slot of it does
+  pub slot-by-slot : leads ≡ any_of into (up_to (width_in widths i))
+  unfolding targets_in
+  slot-by-slot = any_map (tick_at members) (λ s. owner_in owners (slot_in slots i s)) (up_to (width_in widths i))
+
+  pub none : ((k : ℕ) → k < width_in widths i → into k ≡ false) → leads ≡ false
+  none h = slot-by-slot ∙ none_any into (width_in widths i) h
+
+  pub hit : (k : ℕ) → k < width_in widths i → into k ≡ true → leads ≡ true
+  hit k h e = slot-by-slot ∙ any_one into (width_in widths i) k h e
+
+-- no slot passed of the frame leads into a member
+abbrev pub invariant-loop-k : goal.invariant-loop-k
+invariant-loop-k l = (l.found ≡ false) × (l.w ≡ width_in l.widths l.i) × (l.k ≤ l.w) × ((j : ℕ) → j < l.k → into l.widths l.slots l.owners l.members l.i j ≡ false)
+
+abbrev pub decreases-loop-k : goal.decreases-loop-k
+decreases-loop-k l = l.w - l.k
+
+-- the frames left lead into a member exactly if all uncounted frames do
+abbrev pub invariant-look : goal.invariant-look
+invariant-look l =
+    (l.found ≡ false) × (l.n ≡ frame_count_in l.standing) × (any_of (leads l.widths l.slots l.owners l.members) (from l.i (frame_count_in l.standing - l.i)) ≡ led_among_in l.standing l.counted l.widths l.slots l.owners (tick_at l.members))
+
+abbrev pub decreases-look : goal.decreases-look
+decreases-look l = l.n - l.i
