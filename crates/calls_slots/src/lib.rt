@@ -1,4 +1,6 @@
 // The calls that fill or clear slots of the top frame: first, copy, fetch and clear (document 01's calls 9 to 12). Each stands in place, on what is lent of the state.
+#![tactic(auto)]
+
 ghost use Rattle.model.specs.Model.{first, copy, fetch, clear};
 ghost use Rattle.lent.specs.Lent.{InPlace, with_made, with_standing, with_widths, with_slots, with_names, with_oldest};
 
