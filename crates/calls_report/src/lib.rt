@@ -1,4 +1,6 @@
 // The call report, in place. It reads no heap word: the stored count has the outside pointers in words and counted frames, and the uncounted frames are looked through.
+#![tactic(auto)]
+
 ghost use Rattle.std.specs.Prelude.{◌≡◌, ◌+◌, ◌%◌, ◌<◌};
 ghost use Rattle.lists.specs.Lists.{times};
 ghost use Rattle.model.specs.Model.{report};
