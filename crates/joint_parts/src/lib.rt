@@ -1,4 +1,6 @@
 // Several regions at once, ticked by tag: what keeps them from being deleted together, and the entries that go with them.
+#![tactic(auto)]
+
 ghost use Rattle.std.specs.Prelude.{◌≡◌, not, ◌||◌, ◌<◌};
 ghost use Rattle.regions.specs.Regions.{follows_in, closed_in};
 ghost use Rattle.outcomes.specs.Store.{led_among_in};
