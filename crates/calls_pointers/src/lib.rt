@@ -1,4 +1,6 @@
 // The calls on an object's pointers: load and set pointer.
+#![tactic(auto)]
+
 ghost use Rattle.std.specs.Prelude.{◌≡◌};
 ghost use Rattle.model.specs.Model.{load, set_pointer};
 ghost use Rattle.regions.specs.Laws.Steps.{entering, leaving};
