@@ -1,4 +1,6 @@
 // The audit's tests of pointer words. Pointers are looked up among the headers that audit_heap ticked.
+#![tactic(auto)]
+
 ghost use Rattle.std.specs.Prelude.{◌≡◌, ◌≤◌};
 ghost use Rattle.lists.specs.Ticks.{tick_at};
 ghost use Rattle.objects.specs.Parts.{word_in};
