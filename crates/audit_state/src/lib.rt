@@ -1,4 +1,6 @@
 // The audit's tests that read no heap word: limits, m, kinds and frames; and regions, by audit_regions.
+#![tactic(auto)]
+
 ghost use Rattle.std.specs.Prelude.{◌≡◌};
 ghost use Rattle.outcomes.specs.Sound.{within};
 ghost use Rattle.audit_state.specs.Fits.{numbers_fit, marks_fit, kinds_fit, widths_fit, state_fits_in};
