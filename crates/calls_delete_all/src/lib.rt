@@ -1,5 +1,7 @@
 // The call delete_all: regions that go together. 19 comes after the scan (source document 000, chapter 4.3.1, on an array of regions): a reference from member to member keeps none of them; what is left
 // of a count, or a slot, does.
+#![tactic(auto)]
+
 ghost use Rattle.std.specs.Prelude.{◌≡◌, map};
 ghost use Rattle.model.specs.Model.{delete_all};
 ghost use Rattle.model.specs.Calls.{reason};
