@@ -1,4 +1,6 @@
 // Calls that only answer: same, about and totals (document 01's calls 18, 19 and 21), and locate (document 02, card 4). Each stands in place, on what it reads of the state.
+#![tactic(auto)]
+
 ghost use Rattle.std.specs.Prelude.{List, ℕ};
 ghost use Rattle.model.specs.Model.{same, about, totals, locate, ask};
 ghost use Rattle.lent.specs.Lent.{InPlace, with_made, with_standing, with_counted, with_widths, with_slots, with_names, with_owners};
