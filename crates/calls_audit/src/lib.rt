@@ -1,4 +1,6 @@
 // The call audit.
+#![tactic(auto)]
+
 ghost use Rattle.std.specs.Prelude.{◌≡◌, length};
 ghost use Rattle.model.specs.Model.{audit};
 ghost use Rattle.lent.specs.Lent.{InPlace, with_made, with_standing, with_counted, with_declared, with_given, with_widths, with_slots, with_sizes, with_marks, with_names, with_parents, with_levels, with_shares, with_newest, with_oldest, with_owners, with_taken};
