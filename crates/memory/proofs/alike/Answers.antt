@@ -1,0 +1,13 @@
+use Rattle.std.proofs.Common.{◌≡◌, ◌<◌, not, eqb, get_or, sym, ap, ◌∙◌, arith, eq-eqb, ne_eqb}
+use Rattle.lists.specs.Laws.UpTo.{find_first, find_default}
+use Rattle.memory.proofs.alike.Goals as goal
+
+pub returns-then-word : goal.returns-then-word
+returns-then-word c =
+    sym (find_first (λ i. not (eqb (get_or c.args.a.now i 0) (get_or c.args.b.now i 0))) c.args.n c.args.n c.loop-i.i c.loop-i-test.true
+    (ap not (ne_eqb _ _ (λ q. c.if-word.true (c.word.ensures ∙ q ∙ sym c.word-in-loop-i.ensures)))) c.loop-i.invariant.1)
+
+pub returns : goal.returns
+returns c =
+    let e : c.loop-i.i ≡ c.args.n = omega (arith, c.loop-i.invariant.0, c.loop-i-test.false) in
+    e ∙ sym (find_default (λ i. not (eqb (get_or c.args.a.now i 0) (get_or c.args.b.now i 0))) c.args.n c.args.n (rw e at c.loop-i.invariant.1))
