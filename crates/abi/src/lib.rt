@@ -1,5 +1,7 @@
 // The store for hosts in other languages: functions on memory that the host lends, which abi_c has C call. The state is lent as thirteen arrays, its numbers first, then its arrays in the order of its parts.
 // Pointers are aligned and not null, also where a length is 0, lengths are true, and no two buffers overlap: that the host answers for. Whatever the memory holds, the calls are safe, end and have their outcomes; what the outcomes say of memory that the audit rejects is more than document 01 fixes.
+#![tactic(auto)]
+
 ghost use Rattle.std.specs.Prelude.{◌≡◌, [], ◌∷◌, length};
 ghost use Rattle.std.proofs.lemmas.List.Edits.{sets};
 ghost use Rattle.abi.specs.Memory.{Made, Called, Viewed, layout};

@@ -31,18 +31,16 @@ pub one_state : OneState
 unfolding OneState HoldsState state_of
 one_state s t m h k = sym (ap state_of h.0) ∙ ap state_of k.0
 
-sized : (s : State) (heap : List ℕ) → OfSizes sizes (arrays_of s) → Sized (store s heap)
-sized s heap (_, _, (w, _, (l, _, (z, _, (m, _, (n, _, (p, _, (v, _, (h, _, (e, _, (o, _, (r, _, (t, _, _))))))))))))) =
+pub all_sized : AllSized
+unfolding AllSized HoldsState
+all_sized s m heap (e, h) =
+    let (_, _, (w, _, (l, _, (z, _, (m, _, (n, _, (p, _, (v, _, (h, _, (e, _, (o, _, (r, _, (t, _, _))))))))))))) = subst (OfSizes sizes) e h in
     record {
       in_frames = record { widths = w; slots = l };
       in_kinds = record { sizes = z; marks = m };
       in_regions = record { names = n; parents = p; levels = v; shares = h; newest = e; oldest = o };
       in_pages = record { owners = r; taken = t };
     }
-
-pub all_sized : AllSized
-unfolding AllSized HoldsState
-all_sized s m heap (e, h) = sized s heap (subst (OfSizes sizes) e h)
 
 -- what a host has after requests that began with S and end with the state t
 abbrev Ran : Store → List Request → List (List ℕ) → State → List ℕ → Type 0
