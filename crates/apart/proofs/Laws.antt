@@ -19,8 +19,8 @@ use Rattle.regions.specs.Laws.Steps.{steps, leavings}
 use Rattle.pages.specs.declared.Pages.{Pages}
 use Rattle.pages.specs.Pages.{page_count, owner_at}
 use Rattle.outcomes.specs.Apart.{Scans}
-use Rattle.outcomes.specs.Laws.Apart.{mine, out_by, out_from, out_other}
-use Rattle.outcomes.specs.Laws.Deleted.{scans_by}
+use Rattle.outcomes.proofs.Laws.Apart.{mine, out_by, out_from, out_other}
+use Rattle.outcomes.proofs.Laws.Deleted.{scans_by}
 
 -- what changes only at numbers that pass is the same below n as at the start, where none passes
 none_passes : {A : Type 0} (f : ℕ → Bool) (x : ℕ → A) → ((n : ℕ) → f n ≡ false → x n ≡ x (n + 1)) → (n : ℕ) → count_of f (up_to n) ≡ 0 → x 0 ≡ x n

@@ -10,7 +10,7 @@ use Rattle.regions.specs.Regions.{name_at, name_of, parent_at, level_at, newest_
 use Rattle.pages.specs.Pages.{page_count}
 use Rattle.outcomes.specs.Store.{Store, frames, kinds, regions, pages}
 use Rattle.outcomes.specs.History.{entries, listed_kinds}
-use Rattle.outcomes.specs.Laws.Begin.{holder_of, headers_of, headers}
+use Rattle.outcomes.proofs.Laws.Begin.{holder_of, headers_of, headers}
 use Rattle.refinement.specs.Represents.{spot}
 
 -- the pointers of the objects met

@@ -13,7 +13,7 @@ use Rattle.lists.specs.Lists.{pick}
 use Rattle.lists.specs.Laws.Tests.{neither, by_test}
 use Rattle.model.specs.Model.{Answer, allocate, gives}
 use Rattle.model.specs.Calls.{reason, ◌yields◌}
-use Rattle.model.specs.Laws.Passed.{all_passed}
+use Rattle.model.proofs.Laws.Passed.{all_passed}
 use Rattle.kinds.specs.Kinds.{kind_count, size_in, size_of}
 use Rattle.regions.specs.Regions.{entry_in, entry_of, is_live, newest_at, oldest_at, with_page}
 use Rattle.pages.specs.declared.Pages.{Pages}
@@ -22,7 +22,7 @@ use Rattle.pages.specs.Laws.Free.{first_none, first_some}
 use Rattle.outcomes.specs.Store.{Store, kinds, regions, pages, size, roomy, roomy_in}
 use Rattle.outcomes.specs.Outcome.{page_for, with_regions, with_pages, with_heap, refusal, checks, dead, fill_slot, allocated, Accepted, Outcome}
 use Rattle.kinds.specs.Laws.Marks.{size_most}
-use Rattle.outcomes.specs.Laws.Steps.{by_effect}
+use Rattle.outcomes.proofs.Laws.Steps.{by_effect}
 use Rattle.checks.specs.Checks.{first_refusal}
 use Rattle.checks.specs.Laws.Tests.{top, one_slot, else_first, else_next}
 use Rattle.calls_allocate.specs.Places.{allocate_tests, free_place, place_for, oldest_with}

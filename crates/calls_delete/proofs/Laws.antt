@@ -24,9 +24,9 @@ use Rattle.pages.specs.Pages.{wrong_length, page_count_in, pages_with, pages_in}
 use Rattle.outcomes.specs.Store.{Store, frames, kinds, regions, pages, led_among_in, led_in, led_into}
 use Rattle.outcomes.specs.Outcome.{Outcome, Accepted, bad_length, dead, checks, refusal, newly_in}
 use Rattle.outcomes.specs.Apart.{Scans, GivesBack, named}
-use Rattle.outcomes.specs.Laws.Steps.{reason_append, by_effect}
-use Rattle.outcomes.specs.Laws.Apart.{mine}
-use Rattle.outcomes.specs.Laws.Deleted.{code_number, code_deleted}
+use Rattle.outcomes.proofs.Laws.Steps.{reason_append, by_effect}
+use Rattle.outcomes.proofs.Laws.Apart.{mine}
+use Rattle.outcomes.proofs.Laws.Deleted.{code_number, code_deleted}
 use Rattle.checks.specs.Checks.{first_refusal, filler_tests}
 use Rattle.checks.specs.Laws.Tests.{first_zero, filler_passed}
 use Rattle.delete_parts.specs.Delete.{delete_tests}

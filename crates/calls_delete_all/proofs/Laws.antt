@@ -20,8 +20,8 @@ use Rattle.pages.specs.Pages.{pages_with}
 use Rattle.outcomes.specs.Store.{Store, frames, kinds, regions, pages, led_among_in}
 use Rattle.outcomes.specs.Outcome.{Outcome, Accepted, refusal, newly_in}
 use Rattle.outcomes.specs.Apart.{scanned, Scans, GivesBack}
-use Rattle.outcomes.specs.Laws.Steps.{by_refusal, by_effect}
-use Rattle.outcomes.specs.Laws.Deleted.{code_number, code_deleted}
+use Rattle.outcomes.proofs.Laws.Steps.{by_refusal, by_effect}
+use Rattle.outcomes.proofs.Laws.Deleted.{code_number, code_deleted}
 use Rattle.lists.specs.Ticks.{tick_at, ticked}
 use Rattle.members.specs.Members.{tag_by}
 use Rattle.lists.specs.Laws.Ticks.{blank_ticked}

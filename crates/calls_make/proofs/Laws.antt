@@ -5,7 +5,7 @@ use mathlib.Core.List.{List}
 use Prim.Native.Nat.{ℕ, ◌<◌}
 use borrow.Author.Tests.{leb-false}
 use Rattle.model.specs.Calls.{reason}
-use Rattle.model.specs.Laws.Passed.{all_passed}
+use Rattle.model.proofs.Laws.Passed.{all_passed}
 use Rattle.kinds.specs.Kinds.{wrong_marks}
 use Rattle.calls_make.specs.Tests.{declare_tests}
 

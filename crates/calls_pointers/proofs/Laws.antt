@@ -23,7 +23,7 @@ use Rattle.objects.specs.Parts.{object_of, header_in, word_in}
 use Rattle.objects.specs.Laws.Words.{object_header}
 use Rattle.outcomes.specs.Store.{Store, kinds, regions, pages, slot, breaks, breaks_in}
 use Rattle.outcomes.specs.Outcome.{Outcome, Accepted, refusal, checks, no_frame, lacks, no_word, is_data, with_regions, with_heap, fill_slot, pointed, write_word, recounted, counted_in}
-use Rattle.outcomes.specs.Laws.Steps.{reason_append, by_effect}
+use Rattle.outcomes.proofs.Laws.Steps.{reason_append, by_effect}
 use Rattle.checks.specs.Checks.{first_refusal, filler_tests, word_tests}
 use Rattle.checks.specs.Laws.Tests.{top, filler_first, two_slots, first_zero, filler_passed, else_next}
 use Rattle.checks.specs.Laws.Words.{in_slot, object, mark, tested, word_read}

@@ -5,7 +5,7 @@ use Prim.Native.Nat.{ℕ, ◌<◌}
 use lib.ListN.{get_or}
 use borrow.Author.Tests.{ltb-true, leb-false, not-false}
 use Rattle.model.specs.Calls.{reason}
-use Rattle.model.specs.Laws.Passed.{all_passed}
+use Rattle.model.proofs.Laws.Passed.{all_passed}
 use Rattle.calls_regions.specs.Tests.{more_tests, new_tests, subregion_tests}
 
 -- g is what a function gave for the tests, and it accepts

@@ -12,7 +12,7 @@ use Rattle.lists.specs.Lists.{pick}
 use Rattle.lists.specs.Laws.Tests.{neither}
 use Rattle.model.specs.Model.{push, drop_frame, hand_back}
 use Rattle.model.specs.Calls.{reason, ◌yields◌}
-use Rattle.model.specs.Laws.Passed.{all_passed}
+use Rattle.model.proofs.Laws.Passed.{all_passed}
 use Rattle.frames.specs.Frames.{top_in, uncounts_in, top_frame, uncounts, popped}
 use Rattle.regions.specs.Regions.{with_shares}
 use Rattle.regions.specs.Laws.Counts.{Shares}
@@ -21,7 +21,7 @@ use Rattle.regions.specs.Laws.Recount.{leave_recount}
 use Rattle.pages.specs.Pages.{wrong_length}
 use Rattle.outcomes.specs.Store.{Store, frames, regions, pages, targets_in, slot_targets}
 use Rattle.outcomes.specs.Outcome.{refusal, checks, bad_length, no_frame, one_frame, lacks, lacks_beneath, with_frames, with_regions, pop_frame, recounted}
-use Rattle.outcomes.specs.Laws.Steps.{reason_append}
+use Rattle.outcomes.proofs.Laws.Steps.{reason_append}
 use Rattle.checks.specs.Checks.{first_refusal, filler_tests}
 use Rattle.checks.specs.Laws.Tests.{beneath, filler_first, slot_beneath, or_zero}
 use Rattle.calls_stack.specs.Stack.{push_tests, drop_tests}

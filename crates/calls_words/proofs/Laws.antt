@@ -19,7 +19,7 @@ use Rattle.objects.specs.Parts.{object_of, header_in, word_in}
 use Rattle.objects.specs.Laws.Words.{object_header}
 use Rattle.outcomes.specs.Store.{Store, frames, kinds, pages, slot}
 use Rattle.outcomes.specs.Outcome.{Outcome, Accepted, refusal, checks, no_word, is_data, all_data, write_word}
-use Rattle.outcomes.specs.Laws.Steps.{by_refusal, by_effect}
+use Rattle.outcomes.proofs.Laws.Steps.{by_refusal, by_effect}
 use Rattle.checks.specs.Checks.{first_refusal}
 use Rattle.checks.specs.Laws.Tests.{top, one_slot, else_next}
 use Rattle.checks.specs.Laws.Words.{in_slot, object, tested, word_read}

@@ -1,4 +1,3 @@
 pub mod Told
 pub mod Demands
 pub mod Later
-pub mod Laws

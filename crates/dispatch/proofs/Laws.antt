@@ -12,7 +12,7 @@ use Rattle.model.specs.Model.{view, refused_by}
 use Rattle.state.specs.declared.Reply.{Reply}
 use Rattle.outcomes.specs.Store.{Store, slot}
 use Rattle.outcomes.specs.Outcome.{Accepted, answer_of, refusal, viewed}
-use Rattle.outcomes.specs.Laws.Steps.{by_refusal, by_effect}
+use Rattle.outcomes.proofs.Laws.Steps.{by_refusal, by_effect}
 use Rattle.dispatch.specs.Dispatch.{last_call, is_call, decoded, OutcomeOf, DispatchedBy, Dispatched}
 
 -- n is none of the m numbers from 2 on, as the last arm of a match on it says

@@ -5,4 +5,3 @@ pub mod Further
 pub mod Valid
 pub mod Moves
 pub mod Paged
-pub mod Laws

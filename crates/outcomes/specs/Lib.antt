@@ -6,4 +6,3 @@ pub mod Apart
 pub mod Shape
 pub mod Examples
 pub mod Runs
-pub mod Laws

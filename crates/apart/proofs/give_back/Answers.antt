@@ -8,7 +8,7 @@ use Rattle.lists.specs.Laws.UpTo.{count_next, length_up_to}
 use Rattle.pages.specs.Pages.{page_count_in}
 use Rattle.lists.specs.Ticks.{tick_at}
 use Rattle.lists.specs.Laws.Zeroed.{zeroed_none, zeroed_later, zeroed_own, zeroed_other}
-use Rattle.outcomes.specs.Laws.Deleted.{gives_by}
+use Rattle.outcomes.proofs.Laws.Deleted.{gives_by}
 use Rattle.apart.proofs.give_back.Invariants.{held}
 use Rattle.apart.proofs.give_back.Goals as goal
 use Rattle.apart.proofs.give_back.Goals.{else-is_member, then-is_member}

@@ -6,7 +6,7 @@ use Rattle.lists.specs.Lists.{count_of, up_to, zeroed}
 use Rattle.pages.specs.Pages.{page_count_in}
 use Rattle.lists.specs.Ticks.{tick_at}
 use Rattle.lists.specs.Laws.Zeroed.{below}
-use Rattle.outcomes.specs.Laws.Apart.{mine}
+use Rattle.outcomes.proofs.Laws.Apart.{mine}
 use Rattle.apart.proofs.give_back.Given as goal
 
 -- page j is a member's

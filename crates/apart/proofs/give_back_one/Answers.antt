@@ -4,7 +4,7 @@ use native.Mathlib.Omega.{arith}
 use borrow.Author.Rules.{rules}
 use Rattle.lists.specs.Laws.Zeroed.{zeroed_none}
 use Rattle.pages.specs.Pages.{page_count_in, pages_in}
-use Rattle.outcomes.specs.Laws.Deleted.{gives_by}
+use Rattle.outcomes.proofs.Laws.Deleted.{gives_by}
 use Rattle.apart.proofs.Laws.{zeroed_without}
 use Rattle.apart.proofs.give_back_one.Invariants.{its}
 use Rattle.apart.proofs.give_back_one.Goals as goal

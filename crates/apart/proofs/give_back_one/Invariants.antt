@@ -6,7 +6,7 @@ use lib.Dec.{eqb}
 use Rattle.lists.specs.Lists.{zeroed}
 use Rattle.lists.specs.Laws.Zeroed.{below}
 use Rattle.pages.specs.Pages.{page_count_in}
-use Rattle.outcomes.specs.Laws.Apart.{mine}
+use Rattle.outcomes.proofs.Laws.Apart.{mine}
 use Rattle.apart.proofs.give_back_one.Given as goal
 
 -- page j is the region's

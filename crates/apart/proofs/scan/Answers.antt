@@ -7,8 +7,8 @@ use Rattle.regions.specs.Laws.Counts.{Shares, fits_shares}
 use Rattle.regions.specs.Laws.Steps.{steps, leavings}
 use Rattle.pages.specs.Pages.{pages_with, page_count_in, page_count, owner_at, taken_at}
 use Rattle.lists.specs.Ticks.{tick_at}
-use Rattle.outcomes.specs.Laws.Apart.{out_by, out_other, out_left}
-use Rattle.outcomes.specs.Laws.Deleted.{scans_by}
+use Rattle.outcomes.proofs.Laws.Apart.{out_by, out_other, out_left}
+use Rattle.outcomes.proofs.Laws.Deleted.{scans_by}
 use Rattle.apart.proofs.scan.Goals as goal
 use Rattle.apart.proofs.scan.Goals.{else-is_member, then-is_member}
 

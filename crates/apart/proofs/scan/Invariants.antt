@@ -4,7 +4,7 @@ use Rattle.kinds.specs.Kinds.{kinds_with}
 use Rattle.regions.specs.Laws.Steps.{leavings}
 use Rattle.pages.specs.Pages.{pages_with, page_count_in}
 use Rattle.lists.specs.Ticks.{tick_at}
-use Rattle.outcomes.specs.Laws.Apart.{out_from}
+use Rattle.outcomes.proofs.Laws.Apart.{out_from}
 use Rattle.apart.proofs.scan.Given as goal
 
 -- the words of the pages passed have left

@@ -15,7 +15,7 @@ use Rattle.lists.specs.Laws.Sums.{sum_map, sum_same}
 use Rattle.lists.specs.Laws.Finds.{true_every}
 use Rattle.lists.specs.Laws.UpTo.{each_every}
 use Rattle.model.specs.Model.{Model, object, marks}
-use Rattle.model.specs.Laws.Slots.{object_valid}
+use Rattle.model.proofs.Laws.Slots.{object_valid}
 use Rattle.kinds.specs.Kinds.{kind_count, size_of, size_in}
 use Rattle.regions.specs.Regions.{name_of, name_in}
 use Rattle.pages.specs.Pages.{page_count, owner_at}
@@ -23,7 +23,7 @@ use Rattle.objects.specs.Objects.{headers_on}
 use Rattle.outcomes.specs.Store.{Store, kinds, regions, pages}
 use Rattle.outcomes.specs.History.{begin, listed_kinds, listed_frames, listed_held, pages_held}
 use Rattle.outcomes.specs.Sound.{within, filled}
-use Rattle.outcomes.specs.Laws.Begin.{holder_of, pages_filled}
+use Rattle.outcomes.proofs.Laws.Begin.{holder_of, pages_filled}
 use Rattle.refinement.specs.Represents.{spot, Alive, words_in}
 use Rattle.refinement.specs.Laws.Reads.{page_count_lem, kind_count_lem}
 use Rattle.refinement.specs.Laws.Walks.{headers_on_lem, homes_on}

@@ -12,13 +12,13 @@ use Rattle.lists.specs.Laws.Sums.{sum_map, sum_same}
 use Rattle.lists.specs.Laws.Finds.{get_d_map_in}
 use Rattle.lists.specs.Laws.Kept.{each_kept}
 use Rattle.model.specs.Model.{Model, marks, lives_in, home_in, parent_in}
-use Rattle.model.specs.Laws.Regions.{found_itself}
+use Rattle.model.proofs.Laws.Regions.{found_itself}
 use Rattle.frames.specs.Frames.{frame_count}
 use Rattle.regions.specs.Regions.{name_at, entry_of}
 use Rattle.outcomes.specs.Store.{Store, frames, regions}
 use Rattle.outcomes.specs.History.{Region, Object, begin, entries, listed_kinds, listed_frames, listed_regions}
-use Rattle.outcomes.specs.Laws.Begin.{headers, object_at, begin_objects}
-use Rattle.outcomes.specs.Laws.Pointers.{kinds_length, marks_length, marks_at_lem, frames_length, width_is}
+use Rattle.outcomes.proofs.Laws.Begin.{headers, object_at, begin_objects}
+use Rattle.outcomes.proofs.Laws.Pointers.{kinds_length, marks_length, marks_at_lem, frames_length, width_is}
 use Rattle.refinement.specs.Represents.{spot, ids_in}
 use Rattle.refinement.specs.Laws.Tags.{entry_name, entry_live, entry_own, parent_name}
 use Rattle.refinement.specs.Laws.Reads.{frame_count_lem, kind_count_lem}

@@ -14,7 +14,7 @@ use Rattle.model.specs.Valid.{Valid}
 use Rattle.regions.specs.Regions.{name_of, tag_of, name_in}
 use Rattle.pages.specs.Pages.{page_count, owner_at, owner_in, owner_of}
 use Rattle.outcomes.specs.Store.{Store, frames, kinds, regions, pages}
-use Rattle.outcomes.specs.Laws.Begin.{holder_of, headers_of, headers}
+use Rattle.outcomes.proofs.Laws.Begin.{holder_of, headers_of, headers}
 use Rattle.refinement.specs.Represents.{spot, Alive, ids_in, FramesAgree, KindsAgree, RegionsAgree, PagesAgree, ObjectsAgree, Represents, Owned}
 use Rattle.refinement.specs.Laws.Tags.{tag_name, live_named, tag_some}
 use Rattle.refinement.specs.Laws.Reads.{page_count_lem, spot_some, owner_name}

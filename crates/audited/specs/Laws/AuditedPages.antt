@@ -9,7 +9,7 @@ use Rattle.lists.specs.Laws.Tests.{by_test, bit_pick}
 use Rattle.lists.specs.Laws.All.{all_map, all_both}
 use Rattle.lists.specs.Laws.Kept.{all_places, sum_slack}
 use Rattle.model.specs.Model.{Model, Region, region, lives_in, held_by}
-use Rattle.model.specs.Laws.Regions.{found_itself}
+use Rattle.model.proofs.Laws.Regions.{found_itself}
 use Rattle.model.specs.Paged.{Paged, Lies, space, space_of}
 use Rattle.regions.specs.Regions.{tag_of, entry_of, newest_at}
 use Rattle.pages.specs.Pages.{owner_at}

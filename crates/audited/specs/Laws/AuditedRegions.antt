@@ -14,7 +14,7 @@ use Rattle.lists.specs.Laws.Sums.{sum_map}
 use Rattle.lists.specs.Laws.Finds.{any_map, any_count, all_found, true_every}
 use Rattle.model.specs.Model.{Model, Region, no_region, called, region, lives_in, home_in, parent_in}
 use Rattle.model.specs.Valid.{ValidParent, OwnOldest, level_of}
-use Rattle.model.specs.Laws.Regions.{live_all, name_is, distinct_one}
+use Rattle.model.proofs.Laws.Regions.{live_all, name_is, distinct_one}
 use Rattle.regions.specs.Regions.{name_at, entry_of, tag_of, level_at, newest_at}
 use Rattle.pages.specs.Pages.{page_count, owner_at}
 use Rattle.outcomes.specs.Store.{Store, regions, pages}

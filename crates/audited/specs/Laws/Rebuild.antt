@@ -12,7 +12,7 @@ use Rattle.lists.specs.Laws.Finds.{every_true, all_found}
 use Rattle.lists.specs.Laws.Kept.{map_all}
 use Rattle.model.specs.Model.{called, no_region, lives_in, stored}
 use Rattle.model.specs.Valid.{Valid}
-use Rattle.model.specs.Laws.Regions.{name_is}
+use Rattle.model.proofs.Laws.Regions.{name_is}
 use Rattle.regions.specs.Regions.{count_at, entry_of}
 use Rattle.outcomes.specs.Store.{Store, regions}
 use Rattle.outcomes.specs.History.{begin, stored_count, uncounted_into, outside, counts_exact}

@@ -19,7 +19,7 @@ use Rattle.pages.specs.Pages.{owner_at}
 use Rattle.outcomes.specs.Store.{Store, pages}
 use Rattle.outcomes.specs.Shape.{Sized}
 use Rattle.outcomes.specs.History.{begin, leads, home_of, at}
-use Rattle.outcomes.specs.Laws.Begin.{holder_of, headers, object_at, begin_objects, home_is, home_none, leads_null}
+use Rattle.outcomes.proofs.Laws.Begin.{holder_of, headers, object_at, begin_objects, home_is, home_none, leads_null}
 use Rattle.refinement.specs.Represents.{spot, Alive}
 use Rattle.audited.specs.Rebuild.{places, id_of, read_object, rebuilt}
 use Rattle.audited.specs.Laws.RebuildWalk.{stacked_apart}

@@ -17,15 +17,15 @@ use Rattle.lists.specs.Laws.UpTo.{every_each, get_d_map_up_to, length_map_up_to}
 use Rattle.lists.specs.Laws.Kept.{map_all, all_places, find_map, all₂_each}
 use Rattle.model.specs.Model.{Region, no_object, no_region, marks, lives_in, home_in, parent_in, above, rule, allowed}
 use Rattle.model.specs.Valid.{ValidObject, fine}
-use Rattle.model.specs.Laws.Regions.{live_all}
+use Rattle.model.proofs.Laws.Regions.{live_all}
 use Rattle.pages.specs.Pages.{owner_at, taken_at}
 use Rattle.outcomes.specs.Store.{Store, kinds, regions, pages}
 use Rattle.outcomes.specs.History.{begin, entries, listed_kinds, listed_regions, pointers_of, words_lead, leads, home_of, parent_of, above_of}
 use Rattle.outcomes.specs.History as history
 use Rattle.outcomes.specs.Sound.{Sound}
 use Rattle.outcomes.specs.Shape.{Sized}
-use Rattle.outcomes.specs.Laws.Begin.{holder_of, headers, object_at, begin_objects}
-use Rattle.outcomes.specs.Laws.Pointers.{value_at, marks_length, marks_at_lem, every_pointer}
+use Rattle.outcomes.proofs.Laws.Begin.{holder_of, headers, object_at, begin_objects}
+use Rattle.outcomes.proofs.Laws.Pointers.{value_at, marks_length, marks_at_lem, every_pointer}
 use Rattle.refinement.specs.Represents.{spot, Alive, Laid}
 use Rattle.audited.specs.Rebuild.{places, id_of, read_word, read_object, read_region, rebuilt}
 use Rattle.refinement.specs.Laws.Tags.{zero_dead}

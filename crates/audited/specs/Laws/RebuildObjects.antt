@@ -13,7 +13,7 @@ use Rattle.lists.specs.Laws.Kept.{all_joined}
 use Rattle.pages.specs.Pages.{page_count, taken_at}
 use Rattle.objects.specs.Objects.{headers_to, headers_on}
 use Rattle.outcomes.specs.Store.{Store, kinds, pages}
-use Rattle.outcomes.specs.Laws.Begin.{holder_of, headers_of, headers}
+use Rattle.outcomes.proofs.Laws.Begin.{holder_of, headers_of, headers}
 use Rattle.audited.specs.Laws.RebuildWalk.{Stacked, size_at, walk_stacked, stacked_all, stacked_wider, stacked_pages}
 
 module _ (S : Store) where

@@ -19,8 +19,8 @@ use Rattle.objects.specs.Objects.{headers_on}
 use Rattle.outcomes.specs.Store.{Store, kinds, regions, pages}
 use Rattle.outcomes.specs.Sound.{Sound, filled, newest_own}
 use Rattle.outcomes.specs.Shape.{Sized}
-use Rattle.outcomes.specs.Laws.Begin.{holder_of, pages_held_lem, pages_filled}
-use Rattle.outcomes.specs.Laws.Tree.{each_used}
+use Rattle.outcomes.proofs.Laws.Begin.{holder_of, pages_held_lem, pages_filled}
+use Rattle.outcomes.proofs.Laws.Tree.{each_used}
 use Rattle.refinement.specs.Represents.{RoomAgrees, PagesAgree}
 use Rattle.audited.specs.Rebuild.{room_of, read_region, rebuilt}
 use Rattle.audited.specs.Laws.RebuildWalk.{stacked_sum}

@@ -20,8 +20,8 @@ use Rattle.outcomes.specs.Store.{Store, regions}
 use Rattle.outcomes.specs.History.{entries}
 use Rattle.outcomes.specs.Sound.{Sound}
 use Rattle.outcomes.specs.Shape.{Sized}
-use Rattle.outcomes.specs.Laws.Begin.{used_below, entry_is}
-use Rattle.outcomes.specs.Laws.Tree.{few}
+use Rattle.outcomes.proofs.Laws.Begin.{used_below, entry_is}
+use Rattle.outcomes.proofs.Laws.Tree.{few}
 use Rattle.audited.specs.Rebuild.{read_region, rebuilt}
 
 -- ---- any memory

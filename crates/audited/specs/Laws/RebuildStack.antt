@@ -25,7 +25,7 @@ use Rattle.outcomes.specs.Store.{Store, frames, kinds}
 use Rattle.outcomes.specs.History.{begin, listed_kinds, listed_frames, slots_lead, leads}
 use Rattle.outcomes.specs.Sound.{Sound, within}
 use Rattle.outcomes.specs.Shape.{Sized}
-use Rattle.outcomes.specs.Laws.Pointers.{kinds_length, marks_length, marks_at_lem, every_slot}
+use Rattle.outcomes.proofs.Laws.Pointers.{kinds_length, marks_length, marks_at_lem, every_slot}
 use Rattle.refinement.specs.Represents.{FramesAgree, KindsAgree}
 use Rattle.audited.specs.Rebuild.{places, id_of, read_frame, rebuilt}
 use Rattle.audited.specs.Laws.RebuildIds.{Known, known}

@@ -23,7 +23,7 @@ use Rattle.objects.specs.Objects.{walk, headers_to, headers_on}
 use Rattle.outcomes.specs.Store.{Store, kinds, regions, pages}
 use Rattle.outcomes.specs.Sound.{Sound}
 use Rattle.outcomes.specs.Shape.{Sized}
-use Rattle.outcomes.specs.Laws.Begin.{holder_of, headers_of, headers}
+use Rattle.outcomes.proofs.Laws.Begin.{holder_of, headers_of, headers}
 use Rattle.refinement.specs.Represents.{spot, Alive, words_in, ids_in, Laid, Tiles, ObjectsAgree}
 use Rattle.audited.specs.Rebuild.{places, id_of, ids_on, read_object, rebuilt}
 use Rattle.refinement.specs.Laws.Tags.{tag_same}

@@ -15,13 +15,13 @@ use Rattle.lists.specs.Laws.Finds.{any_map, any_count, every_true}
 use Rattle.lists.specs.Laws.Kept.{kept_most}
 use Rattle.model.specs.Model.{Region, called, live, parent_of, home_in}
 use Rattle.model.specs.Valid.{Distinct, ValidNames, ValidParent, OwnOldest}
-use Rattle.model.specs.Laws.Regions.{live_zero, level_is}
+use Rattle.model.proofs.Laws.Regions.{live_zero, level_is}
 use Rattle.regions.specs.Regions.{name_at, name_of, entry_of, parent_at, level_at, oldest_at, name_in}
 use Rattle.outcomes.specs.Store.{Store, regions}
 use Rattle.outcomes.specs.History.{begin, entries, leads, home_of}
 use Rattle.outcomes.specs.Sound.{Sound, oldest_own}
 use Rattle.outcomes.specs.Shape.{Sized}
-use Rattle.outcomes.specs.Laws.Tree.{Place, each_used, entry_above}
+use Rattle.outcomes.proofs.Laws.Tree.{Place, each_used, entry_above}
 use Rattle.refinement.specs.Represents.{tag_for, RegionsAgree}
 use Rattle.audited.specs.Rebuild.{places, read_region, rebuilt}
 use Rattle.refinement.specs.Laws.Tags.{for_some}

@@ -5,7 +5,7 @@ use Rattle.frames.specs.Frames.{put_slot, top_frame}
 use Rattle.regions.specs.Regions.{oldest_at, with_page}
 use Rattle.pages.specs.Pages.{with_taken}
 use Rattle.outcomes.specs.Outcome.{fill_slot}
-use Rattle.outcomes.specs.Laws.Steps.{by_refusal, by_parts}
+use Rattle.outcomes.proofs.Laws.Steps.{by_refusal, by_parts}
 use Rattle.calls_allocate.proofs.Laws.{size_small, object_passed, allocate_first, allocate_second, allocate_effect}
 use Rattle.calls_allocate.proofs.allocate_in.Statement.{statement}
 use Rattle.calls_allocate.proofs.allocate_in.Tie as tie

@@ -28,9 +28,9 @@ use Rattle.outcomes.specs.Store.{Store, frames, kinds, regions, pages, targets_i
 use Rattle.outcomes.specs.History.{begin, entries, listed_regions, counts_exact, outside, uncounted_into, stored_count}
 use Rattle.outcomes.specs.History as history
 use Rattle.outcomes.specs.Sound.{within}
-use Rattle.outcomes.specs.Laws.Values.{page_most}
-use Rattle.outcomes.specs.Laws.Begin.{every_entry, entry_is}
-use Rattle.outcomes.specs.Laws.Pointers.{Ordered, Known, words_into, value_at, frames_length, slots_sum, slots_into_lem, words_into_lem, slots_into}
+use Rattle.outcomes.proofs.Laws.Values.{page_most}
+use Rattle.outcomes.proofs.Laws.Begin.{every_entry, entry_is}
+use Rattle.outcomes.proofs.Laws.Pointers.{Ordered, Known, words_into, value_at, frames_length, slots_sum, slots_into_lem, words_into_lem, slots_into}
 use Rattle.audit_state.specs.Fits.{widths_fit}
 use Rattle.audit_slots.specs.Leads.{known, frame_leads, frames_lead}
 use Rattle.audit_words.specs.Words.{word_holds, object_holds, objects_hold, page_holds, pages_hold}

@@ -8,10 +8,10 @@ use Rattle.regions.specs.Regions.{name_at, count_in, count_at}
 use Rattle.regions.specs.Laws.Counts.{Shares}
 use Rattle.outcomes.specs.Store.{Store, regions}
 use Rattle.outcomes.specs.Sound.{sound, Sound, newest_own, oldest_own}
-use Rattle.outcomes.specs.Laws.Decided.{sound_is, is_sound}
-use Rattle.outcomes.specs.Laws.Begin.{every_entry, each_entry}
-use Rattle.outcomes.specs.Laws.Tree.{Tree, few, tree}
-use Rattle.outcomes.specs.Laws.Pointers.{Ordered}
+use Rattle.outcomes.proofs.Laws.Decided.{sound_is, is_sound}
+use Rattle.outcomes.proofs.Laws.Begin.{every_entry, each_entry}
+use Rattle.outcomes.proofs.Laws.Tree.{Tree, few, tree}
+use Rattle.outcomes.proofs.Laws.Pointers.{Ordered}
 use Rattle.audit_state.specs.Fits.{state_fits}
 use Rattle.audit_slots.specs.Leads.{entry_owns, entries_own}
 use Rattle.calls_audit.specs.Passes.{heap_fits, passes_in, passes}

@@ -30,9 +30,9 @@ use Rattle.objects.specs.Laws.Walk.{walk_sizes}
 use Rattle.outcomes.specs.Store.{Store, frames, kinds, regions, pages}
 use Rattle.outcomes.specs.History.{Object, begin, listed_held, pointers_of, leads, home_of, above_of, slots_lead, words_lead, pages_held}
 use Rattle.outcomes.specs.Sound.{Sound, filled, newest_own, oldest_own}
-use Rattle.outcomes.specs.Laws.Begin.{holder_of, headers_of, headers, object_at, holding, begin_objects, page_of_lem, leads_among, pages_held_lem, pages_filled, home_none}
-use Rattle.outcomes.specs.Laws.Tree.{Tree, above_same}
-use Rattle.outcomes.specs.Laws.Pointers.{Ordered, value_at, every_slot, every_pointer, home_name, home_tag}
+use Rattle.outcomes.proofs.Laws.Begin.{holder_of, headers_of, headers, object_at, holding, begin_objects, page_of_lem, leads_among, pages_held_lem, pages_filled, home_none}
+use Rattle.outcomes.proofs.Laws.Tree.{Tree, above_same}
+use Rattle.outcomes.proofs.Laws.Pointers.{Ordered, value_at, every_slot, every_pointer, home_name, home_tag}
 use Rattle.audit_heap.specs.Heap.{headers_in, filled_to, page_fits, pages_fit, headers_held, all_headers}
 use Rattle.audit_slots.specs.Leads.{newest_fits, oldest_fits, entries_own, known, frame_leads, frames_lead}
 use Rattle.lists.specs.Laws.Ticks.{blank_ticked}

@@ -20,7 +20,7 @@ use Rattle.regions.specs.Regions.{name_at, parent_at, level_at, entry_of, is_liv
 use Rattle.outcomes.specs.Store.{Store, frames, kinds, regions, pages}
 use Rattle.outcomes.specs.History.{entries, listed_kinds, listed_frames}
 use Rattle.outcomes.specs.Sound.{Sound, within, placed}
-use Rattle.outcomes.specs.Laws.Begin.{every_entry, each_entry, name_times, one_lives}
+use Rattle.outcomes.proofs.Laws.Begin.{every_entry, each_entry, name_times, one_lives}
 use Rattle.audit_regions.specs.Filed.{placed_at, namesakes, region_fits, entry_fits, regions_fit}
 use Rattle.audit_state.specs.Fits.{numbers_fit, marks_fit, kind_fits, kinds_fit, widths_fit, state_fits_in, state_fits}
 

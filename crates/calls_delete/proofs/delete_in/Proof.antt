@@ -4,7 +4,7 @@ use borrow.Author.Rules.{rules}
 use Rattle.frames.specs.Frames.{top_frame, raised}
 use Rattle.regions.specs.Regions.{with_shares, without_regions}
 use Rattle.regions.specs.Laws.Entries.{entry_most}
-use Rattle.outcomes.specs.Laws.Steps.{by_refusal}
+use Rattle.outcomes.proofs.Laws.Steps.{by_refusal}
 use Rattle.calls_delete.proofs.Laws.{delete_second, delete_effect}
 use Rattle.calls_delete.proofs.delete_in.Statement.{statement}
 use Rattle.calls_delete.proofs.delete_in.Tie as tie

@@ -13,7 +13,7 @@ use Rattle.lists.specs.Laws.All.{all_map}
 use Rattle.lists.specs.Laws.Finds.{any_same}
 use Rattle.model.specs.Model.{delete_all}
 use Rattle.model.specs.Calls.{reason, ◌yields◌, no_filler, wrong_names, name_tests}
-use Rattle.model.specs.Laws.Passed.{filler_one, positive, all_passed, names_numbers, names_passed, names_agree}
+use Rattle.model.proofs.Laws.Passed.{filler_one, positive, all_passed, names_numbers, names_passed, names_agree}
 use Rattle.regions.specs.declared.Regions.{Regions}
 use Rattle.regions.specs.Regions.{entry_of, tag_of, is_live, closed_in, count_at, with_shares}
 use Rattle.regions.specs.Laws.Counts.{Shares}
@@ -23,8 +23,8 @@ use Rattle.pages.specs.Pages.{wrong_length_in, wrong_length}
 use Rattle.outcomes.specs.Store.{Store, frames, regions, pages, led_among_in, led_among}
 use Rattle.outcomes.specs.Outcome.{bad_length, dead, outgoing, count_but, checks, refusal}
 use Rattle.outcomes.specs.Apart.{scanned}
-use Rattle.outcomes.specs.Laws.Steps.{reason_append}
-use Rattle.outcomes.specs.Laws.Deleted.{scan_leaves, left_are}
+use Rattle.outcomes.proofs.Laws.Steps.{reason_append}
+use Rattle.outcomes.proofs.Laws.Deleted.{scan_leaves, left_are}
 use Rattle.checks.specs.Checks.{first_refusal}
 use Rattle.checks.specs.Laws.Tests.{else_first, else_next}
 use Rattle.members.specs.Members.{dead_by}

@@ -11,7 +11,7 @@ use Rattle.kinds.specs.Laws.Marks.{marks_right}
 use Rattle.pages.specs.Pages.{wrong_length}
 use Rattle.outcomes.specs.Store.{Store, kinds, pages}
 use Rattle.outcomes.specs.Outcome.{refusal, checks, bad_length, Accepted}
-use Rattle.outcomes.specs.Laws.Steps.{by_refusal, by_effect}
+use Rattle.outcomes.proofs.Laws.Steps.{by_refusal, by_effect}
 use Rattle.calls_make.specs.Tests.{declare_tests}
 use Rattle.calls_make.proofs.Laws.{declare_passed}
 use Rattle.calls_make.proofs.declare_in.Statement.{statement}

@@ -1,7 +1,7 @@
 use mathlib.Core.Path.{refl, ◌∙◌}
 use Rattle.frames.specs.Frames.{put_slot, top_frame}
 use Rattle.outcomes.specs.Outcome.{fill_slot}
-use Rattle.outcomes.specs.Laws.Steps.{by_refusal}
+use Rattle.outcomes.proofs.Laws.Steps.{by_refusal}
 use Rattle.checks.specs.Laws.Tests.{else_first}
 use Rattle.calls_pointers.proofs.Laws.{load_tests, load_second, load_effect}
 use Rattle.calls_pointers.proofs.load_in.Goals as goal

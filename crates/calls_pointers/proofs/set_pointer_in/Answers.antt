@@ -3,7 +3,7 @@ use mathlib.Core.Bool.{true, false}
 use native.Mathlib.Omega.{arith}
 use Rattle.pages.specs.Pages.{owner_in}
 use Rattle.regions.specs.Regions.{with_shares}
-use Rattle.outcomes.specs.Laws.Steps.{by_refusal}
+use Rattle.outcomes.proofs.Laws.Steps.{by_refusal}
 use Rattle.checks.specs.Laws.Tests.{else_first}
 use Rattle.calls_pointers.proofs.Laws.{set_parts, set_second, set_effect, set_asked, tag_is}
 use Rattle.calls_pointers.proofs.set_pointer_in.Goals as goal

@@ -8,7 +8,7 @@ use Rattle.regions.specs.Regions.{live_count, unused, with_region}
 use Rattle.pages.specs.Pages.{wrong_length}
 use Rattle.outcomes.specs.Store.{Store, regions, pages}
 use Rattle.outcomes.specs.Outcome.{refusal, checks, bad_length, full, names_out, Accepted}
-use Rattle.outcomes.specs.Laws.Steps.{by_refusal, by_effect}
+use Rattle.outcomes.proofs.Laws.Steps.{by_refusal, by_effect}
 use Rattle.calls_regions.specs.Tests.{new_tests, more_tests}
 use Rattle.calls_regions.proofs.Laws.{new_passed}
 use Rattle.calls_regions.proofs.new_region_in.Statement.{statement}

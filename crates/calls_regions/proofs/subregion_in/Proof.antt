@@ -9,7 +9,7 @@ use Rattle.regions.specs.Regions.{entry_in, entry_of, tag_of, is_live, level_at,
 use Rattle.pages.specs.Pages.{wrong_length}
 use Rattle.outcomes.specs.Store.{Store, regions, pages}
 use Rattle.outcomes.specs.Outcome.{refusal, checks, bad_length, dead, full, names_out, Accepted}
-use Rattle.outcomes.specs.Laws.Steps.{by_refusal, by_effect, by_parts}
+use Rattle.outcomes.proofs.Laws.Steps.{by_refusal, by_effect, by_parts}
 use Rattle.calls_regions.specs.Tests.{subregion_tests, more_tests}
 use Rattle.calls_regions.proofs.Laws.{subregion_passed}
 use Rattle.calls_regions.proofs.subregion_in.Statement.{statement}

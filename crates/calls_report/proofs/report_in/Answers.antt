@@ -6,7 +6,7 @@ use Rattle.regions.specs.Regions.{entry_of, tag_of, count_at, subregions_of}
 use Rattle.pages.specs.Pages.{pages_of, wrong_length_in}
 use Rattle.outcomes.specs.Store.{Store, regions, pages, slots_beyond, outside_of}
 use Rattle.outcomes.specs.Outcome.{refusal, checks, Accepted}
-use Rattle.outcomes.specs.Laws.Steps.{by_refusal, by_effect}
+use Rattle.outcomes.proofs.Laws.Steps.{by_refusal, by_effect}
 use Rattle.checks.specs.Checks.{region_tests}
 use Rattle.checks.specs.Laws.Tests.{named, one_region, or_zero}
 use Rattle.calls_report.proofs.report_in.Goals as goal

@@ -1,7 +1,7 @@
 use mathlib.Core.Path.{refl, sym, ◌∙◌}
 use Rattle.frames.specs.Frames.{put_slot, top_frame}
 use Rattle.outcomes.specs.Outcome.{Accepted, fill_slot}
-use Rattle.outcomes.specs.Laws.Steps.{by_refusal, by_effect}
+use Rattle.outcomes.proofs.Laws.Steps.{by_refusal, by_effect}
 use Rattle.calls_slots.proofs.Laws.{clear_tests}
 use Rattle.calls_slots.proofs.clear_in.Goals as goal
 

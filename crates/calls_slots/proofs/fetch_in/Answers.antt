@@ -1,7 +1,7 @@
 use mathlib.Core.Path.{refl, sym, ◌∙◌}
 use Rattle.frames.specs.Frames.{put_slot, slot_at, top_frame}
 use Rattle.outcomes.specs.Outcome.{Accepted, fill_slot}
-use Rattle.outcomes.specs.Laws.Steps.{by_refusal, by_effect}
+use Rattle.outcomes.proofs.Laws.Steps.{by_refusal, by_effect}
 use Rattle.calls_slots.proofs.Laws.{fetch_tests}
 use Rattle.calls_slots.proofs.fetch_in.Goals as goal
 

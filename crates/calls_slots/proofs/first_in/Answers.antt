@@ -3,7 +3,7 @@ use native.Mathlib.Omega.{arith}
 use Rattle.frames.specs.Frames.{put_slot, top_frame}
 use Rattle.regions.specs.Regions.{is_live, entry_of, oldest_at}
 use Rattle.outcomes.specs.Outcome.{Accepted, fill_slot, dead}
-use Rattle.outcomes.specs.Laws.Steps.{by_refusal, by_effect}
+use Rattle.outcomes.proofs.Laws.Steps.{by_refusal, by_effect}
 use Rattle.checks.specs.Laws.Tests.{else_first, else_next}
 use Rattle.calls_slots.proofs.Laws.{first_tests, refuses, accepts}
 use Rattle.calls_slots.proofs.first_in.Goals as goal

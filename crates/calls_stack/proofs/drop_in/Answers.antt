@@ -2,7 +2,7 @@ use mathlib.Core.Path.{refl, sym, ◌∙◌}
 use Rattle.frames.specs.Frames.{top_frame, popped}
 use Rattle.regions.specs.Regions.{with_shares}
 use Rattle.outcomes.specs.Outcome.{Accepted}
-use Rattle.outcomes.specs.Laws.Steps.{by_refusal, by_effect}
+use Rattle.outcomes.proofs.Laws.Steps.{by_refusal, by_effect}
 use Rattle.checks.specs.Laws.Tests.{first_zero, filler_passed}
 use Rattle.calls_stack.proofs.Laws.{drop_tests_lem, pop_is}
 use Rattle.calls_stack.proofs.drop_in.Goals as goal

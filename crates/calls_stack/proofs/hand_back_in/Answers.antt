@@ -3,7 +3,7 @@ use Rattle.frames.specs.Frames.{top_in, top_frame, slot_in, slot_at, put_slot, p
 use Rattle.regions.specs.Regions.{with_shares}
 use Rattle.outcomes.specs.Store.{slot}
 use Rattle.outcomes.specs.Outcome.{Accepted, fill_slot}
-use Rattle.outcomes.specs.Laws.Steps.{by_refusal, by_effect}
+use Rattle.outcomes.proofs.Laws.Steps.{by_refusal, by_effect}
 use Rattle.checks.specs.Laws.Tests.{first_zero, filler_passed}
 use Rattle.calls_stack.proofs.Laws.{hand_tests, pop_is}
 use Rattle.calls_stack.proofs.hand_back_in.Goals as goal

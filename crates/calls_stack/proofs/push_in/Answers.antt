@@ -2,7 +2,7 @@ use mathlib.Core.Path.{refl, sym, ◌∙◌}
 use native.Mathlib.Omega.{arith}
 use Rattle.frames.specs.Frames.{pushed}
 use Rattle.outcomes.specs.Outcome.{Accepted}
-use Rattle.outcomes.specs.Laws.Steps.{by_refusal, by_effect}
+use Rattle.outcomes.proofs.Laws.Steps.{by_refusal, by_effect}
 use Rattle.calls_stack.proofs.Laws.{push_tests_lem, push_small}
 use Rattle.calls_stack.proofs.push_in.Goals as goal
 

@@ -1,5 +1,5 @@
 use mathlib.Core.Path.{refl, ◌∙◌}
-use Rattle.outcomes.specs.Laws.Steps.{by_refusal}
+use Rattle.outcomes.proofs.Laws.Steps.{by_refusal}
 use Rattle.checks.specs.Laws.Tests.{else_first}
 use Rattle.calls_words.proofs.Laws.{get_tests, get_second, get_effect}
 use Rattle.calls_words.proofs.get_in.Goals as goal

@@ -1,6 +1,6 @@
 use mathlib.Core.Path.{refl, ap, ◌∙◌}
 use Rattle.outcomes.specs.Outcome.{store, write_word}
-use Rattle.outcomes.specs.Laws.Steps.{by_refusal}
+use Rattle.outcomes.proofs.Laws.Steps.{by_refusal}
 use Rattle.checks.specs.Laws.Tests.{else_first}
 use Rattle.calls_words.proofs.Laws.{get_tests, put_tests, get_second, put_effect}
 use Rattle.calls_words.proofs.put_in.Goals as goal

@@ -6,13 +6,13 @@ use Rattle.std.proofs.Common.{sym, ◌∙◌, eqb-true, ne_eqb}
 use Rattle.std.proofs.Math.Bool.{true, false}
 use Rattle.lists.specs.Laws.Tests.{by_test}
 use Rattle.model.specs.Calls.{reason, ◌yields◌, no_filler}
-use Rattle.model.specs.Laws.Passed.{all_passed, filler_one}
+use Rattle.model.proofs.Laws.Passed.{all_passed, filler_one}
 use Rattle.frames.specs.Frames.{width_at, top_frame}
 use Rattle.regions.specs.Regions.{entry_of, is_live}
 use Rattle.pages.specs.Pages.{wrong_length}
 use Rattle.outcomes.specs.Store.{Store, frames, regions, pages}
 use Rattle.outcomes.specs.Outcome.{bad_length, no_frame, one_frame, lacks, lacks_beneath, dead}
-use Rattle.outcomes.specs.Laws.Steps.{reason_append}
+use Rattle.outcomes.proofs.Laws.Steps.{reason_append}
 use Rattle.checks.specs.Checks.{first_refusal, filler_tests, top_tests, beneath_tests, region_tests}
 
 or_same : (b : Bool) → (b || b) ≡ b

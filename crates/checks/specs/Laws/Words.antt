@@ -13,7 +13,7 @@ use Rattle.kinds.specs.Laws.Marks.{size_most}
 use Rattle.objects.specs.Laws.Words.{object_header, object_word}
 use Rattle.outcomes.specs.Store.{Store, frames, kinds, slot}
 use Rattle.outcomes.specs.Outcome.{no_word, is_data}
-use Rattle.outcomes.specs.Laws.Steps.{reason_append}
+use Rattle.outcomes.proofs.Laws.Steps.{reason_append}
 use Rattle.checks.specs.Checks.{first_refusal, word_tests}
 
 module _ (S : Store) (s : ℕ) where

@@ -17,7 +17,7 @@ use Rattle.lists.specs.Laws.Finds.{true_every, all_keep, get_d_map_in}
 use Rattle.lists.specs.Laws.UpTo.{all_up_to, each_every, sum_below, sum_part, sum_places, sum₂_places}
 use Rattle.model.specs.Model.{Model, object, marks, lives_in, home_in, into, free_into, rule, allowed, in_frames, from_object, in_words, word_pointers, outside, stored, outside_but}
 use Rattle.model.specs.Valid.{Valid, known}
-use Rattle.model.specs.Laws.Slots.{Known, slot_known, object_valid}
+use Rattle.model.proofs.Laws.Slots.{Known, slot_known, object_valid}
 use Rattle.frames.specs.Frames.{slot_at}
 use Rattle.outcomes.specs.Store.{Store, frames, regions, pages}
 use Rattle.outcomes.specs.History.{History, Word, slots_of, pointers_of, leads, home_of, above_of, slots_leading_to, words_leading_to, uncounted_into, slots_lead, words_lead}

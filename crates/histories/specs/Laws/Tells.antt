@@ -14,9 +14,9 @@ use Rattle.lists.specs.Laws.Sums.{sum_zero, sum_nothing}
 use Rattle.lists.specs.Laws.Finds.{any_count, find_none, sum_one, true_every, every_count}
 use Rattle.model.specs.Model.{Model, Region, no_region, called, object, lives_in, home_in, parent_in, subregions, closed, above}
 use Rattle.model.specs.Valid.{Valid}
-use Rattle.model.specs.Laws.Slots.{Known, in_list}
-use Rattle.model.specs.Laws.Regions.{distinct_one}
-use Rattle.model.specs.Laws.Climb.{climb_same, parent_lives}
+use Rattle.model.proofs.Laws.Slots.{Known, in_list}
+use Rattle.model.proofs.Laws.Regions.{distinct_one}
+use Rattle.model.proofs.Laws.Climb.{climb_same, parent_lives}
 use Rattle.regions.specs.declared.Regions.{Regions}
 use Rattle.pages.specs.declared.Pages.{Pages}
 use Rattle.outcomes.specs.History.{History, is_live, parent_of, above_of, at, leads, home_of}

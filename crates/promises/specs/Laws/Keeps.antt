@@ -28,9 +28,9 @@ use Rattle.outcomes.specs.Outcome.{Outcome, Accepted, Answered, query_reply, ref
 use Rattle.promises.specs.Promises.{Sent, KeepsShape}
 use Rattle.promises.specs.Laws.Sizes.{keeps_size}
 use Rattle.promises.specs.Laws.Passed.{passed}
-use Rattle.outcomes.specs.Laws.Bounded.{below_at, all_sets, pick_below, slot_below, put_slot_lem, push_frame, pop_frame_lem, raise_mark, with_kind_lem, with_region_lem, without_regions_lem, with_page_lem, recount_bounded, with_taken_lem, free_pages}
-use Rattle.outcomes.specs.Laws.PageFor.{NewestOrFree, newest_or_free}
-use Rattle.outcomes.specs.Laws.Values.{size_most, outside_below, word_below, kind_below, live_below, subregions_below, pages_below, name_below, oldest_below}
+use Rattle.outcomes.proofs.Laws.Bounded.{below_at, all_sets, pick_below, slot_below, put_slot_lem, push_frame, pop_frame_lem, raise_mark, with_kind_lem, with_region_lem, without_regions_lem, with_page_lem, recount_bounded, with_taken_lem, free_pages}
+use Rattle.outcomes.proofs.Laws.PageFor.{NewestOrFree, newest_or_free}
+use Rattle.outcomes.proofs.Laws.Values.{size_most, outside_below, word_below, kind_below, live_below, subregions_below, pages_below, name_below, oldest_below}
 
 zeros : Bits32 (gives []).values
 zeros = (omega arith, (omega arith, (omega arith, (omega arith, tt))))

@@ -6,7 +6,7 @@ use Rattle.lists.specs.Lists.{pick, every}
 use Rattle.lists.specs.Laws.Tests.{both}
 use Rattle.model.specs.Model.{Call, declare, new_region, subregion, push, drop_frame, hand_back, allocate, first, copy, fetch, clear, load, set_pointer, put, get, view, same, about, report, totals, audit, delete, delete_all, Query, locate, ask}
 use Rattle.model.specs.Calls.{reason, ◌yields◌}
-use Rattle.model.specs.Laws.Passed.{names_numbers}
+use Rattle.model.proofs.Laws.Passed.{names_numbers}
 use Rattle.pages.specs.Pages.{wrong_length, wrong_length_in}
 use Rattle.outcomes.specs.Store.{Store, pages}
 use Rattle.outcomes.specs.Sound.{Sound}

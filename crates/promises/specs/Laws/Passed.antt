@@ -3,7 +3,7 @@
 use Rattle.std.specs.Prelude.{◌≡◌, refl, true, false, ltb}
 use Rattle.lists.specs.Lists.{every, All}
 use Rattle.model.specs.Model.{Call, declare, new_region, subregion, push, drop_frame, hand_back, allocate, first, copy, fetch, clear, load, set_pointer, put, get, view, same, about, report, totals, audit, delete, delete_all, Query, locate, ask}
-use Rattle.model.specs.Laws.Passed.{positive, all_passed, names_numbers}
+use Rattle.model.proofs.Laws.Passed.{positive, all_passed, names_numbers}
 use Rattle.outcomes.specs.Store.{Store}
 use Rattle.outcomes.specs.Outcome.{checks, query_checks, refusal, dead}
 

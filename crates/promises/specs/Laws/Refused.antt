@@ -8,7 +8,7 @@ use Rattle.outcomes.specs.Store.{Store}
 use Rattle.outcomes.specs.Sound.{sound}
 use Rattle.outcomes.specs.Outcome.{Outcome, Accepted, Answered, query_reply, checks, refusal}
 use Rattle.promises.specs.Promises.{Total, Refusals, AuditExact}
-use Rattle.outcomes.specs.Laws.Decided.{sound_is, is_sound}
+use Rattle.outcomes.proofs.Laws.Decided.{sound_is, is_sound}
 
 -- ---- the audit
 

@@ -12,7 +12,7 @@ use Rattle.pages.specs.declared.Pages.{Pages}
 use Rattle.outcomes.specs.Store.{Store, frames, kinds, regions, pages}
 use Rattle.outcomes.specs.Shape.{FramesSized, RegionsSized, PagesSized, Sized}
 use Rattle.outcomes.specs.Outcome.{Outcome, Accepted, Answered, refusal, with_frames, with_regions, with_pages, with_heap, fill_slot, write_word, recounted, pointed, pop_frame, allocated, outgoing, newly_counted, deleted}
-use Rattle.outcomes.specs.Laws.Sized.{put_slot_lem, push_frame, pop_frame_lem, raise_mark, with_kind_lem, with_region_lem, without_regions_lem, with_page_lem, recount_sized, with_taken_lem, free_pages}
+use Rattle.outcomes.proofs.Laws.Sized.{put_slot_lem, push_frame, pop_frame_lem, raise_mark, with_kind_lem, with_region_lem, without_regions_lem, with_page_lem, recount_sized, with_taken_lem, free_pages}
 
 -- ---- a store with another part
 

@@ -19,11 +19,11 @@ use Rattle.lists.specs.Laws.Sums.{sum_map}
 use Rattle.model.specs.Model.{Model, Region, region, marks, lives_in, lowest_free, top, allocate}
 use Rattle.model.specs.Calls.{checks, refusal, accepted, size, fits, page_for, word_for, holders_for, grown, add_object}
 use Rattle.model.specs.Valid.{Valid}
-use Rattle.model.specs.Laws.Passed.{passed}
-use Rattle.model.specs.Laws.Slots.{Known, slot_known, oldest_known}
-use Rattle.model.specs.Laws.Regions.{name_is, live_positive, region_map}
-use Rattle.model.specs.Laws.Grows.{change, name_kept, made_valid}
-use Rattle.model.specs.Laws.Counts.{object_stored}
+use Rattle.model.proofs.Laws.Passed.{passed}
+use Rattle.model.proofs.Laws.Slots.{Known, slot_known, oldest_known}
+use Rattle.model.proofs.Laws.Regions.{name_is, live_positive, region_map}
+use Rattle.model.proofs.Laws.Grows.{change, name_kept, made_valid}
+use Rattle.model.proofs.Laws.Counts.{object_stored}
 use Rattle.kinds.specs.Kinds.{size_of}
 use Rattle.regions.specs.declared.Regions.{Regions}
 use Rattle.regions.specs.Regions.{name_at, entry_of, tag_of, parent_at, level_at, newest_at, oldest_at, with_page}
@@ -34,7 +34,7 @@ use Rattle.pages.specs.Laws.Taken.{owner_here, owner_else, taken_here, taken_els
 use Rattle.outcomes.specs.Store.{Store, kinds, regions, pages, roomy, size as store_size}
 use Rattle.outcomes.specs.Shape.{PagesSized, RegionsSized, Sized}
 use Rattle.outcomes.specs.Outcome.{with_regions, with_pages, with_heap, page_for as store_page, allocated, fill_slot as store_fill}
-use Rattle.outcomes.specs.Laws.PageFor.{newest_or_free}
+use Rattle.outcomes.proofs.Laws.PageFor.{newest_or_free}
 use Rattle.refinement.specs.Represents.{spot, tag_for, EntryAgrees, RegionsAgree, NewestAgrees, RoomAgrees, Owned, PagesAgree, Represents}
 use Rattle.refinement.specs.Laws.Tags.{zero_dead, tag_some, tag_injective, entry_in_lem}
 use Rattle.refinement.specs.Laws.Places.{Onto, new_id, joins, made_lives, spot_last, spot_kept, objects_made}

@@ -10,7 +10,7 @@ use Rattle.lists.specs.Laws.Sums.{sum_same}
 use Rattle.lists.specs.Laws.UpTo.{all_from, sum_below, sum_part, sum_places}
 use Rattle.model.specs.Model.{Model, object, marks, lives_in, home_in, into, in_frames}
 use Rattle.model.specs.Valid.{Valid}
-use Rattle.model.specs.Laws.Slots.{Known, slot_known, object_valid}
+use Rattle.model.proofs.Laws.Slots.{Known, slot_known, object_valid}
 use Rattle.frames.specs.Frames.{frame_count}
 use Rattle.regions.specs.declared.Regions.{Regions}
 use Rattle.regions.specs.Regions.{entry_of, tag_of, count_at, recount}
@@ -18,7 +18,7 @@ use Rattle.regions.specs.Laws.Recount.{recount_exact}
 use Rattle.pages.specs.declared.Pages.{Pages}
 use Rattle.pages.specs.Pages.{owner_of}
 use Rattle.outcomes.specs.Store.{Store, frames, regions, pages, slot_targets, slots_beyond_in, slots_beyond}
-use Rattle.outcomes.specs.Laws.Pointers.{slots_sum, slots_into}
+use Rattle.outcomes.proofs.Laws.Pointers.{slots_sum, slots_into}
 use Rattle.refinement.specs.Represents.{spot, Alive, words_in, FramesAgree, RegionsAgree, ObjectsAgree}
 use Rattle.refinement.specs.Laws.Tags.{entry_in_lem, tag_for_lem, for_same, live_for}
 use Rattle.refinement.specs.Laws.Reads.{frame_count_lem, home_named, owner_is}

@@ -20,10 +20,10 @@ use Rattle.model.specs.Model.{Model, Region, Answer, delete, delete_all, gives, 
 use Rattle.model.specs.Calls.{checks, refusal, reply, accepted, others, held_after, remove_regions}
 use Rattle.model.specs.Valid.{Valid}
 use Rattle.model.specs.Moves.{newly, from_region, from_regions}
-use Rattle.model.specs.Laws.Passed.{passed, filler_one}
-use Rattle.model.specs.Laws.Regions.{live_others, region_others, not_removed, lived_before}
-use Rattle.model.specs.Laws.Removable.{Removable, removable_one, removable_all, parent_away}
-use Rattle.model.specs.Laws.Counts.{outside_stored, remove_stored}
+use Rattle.model.proofs.Laws.Passed.{passed, filler_one}
+use Rattle.model.proofs.Laws.Regions.{live_others, region_others, not_removed, lived_before}
+use Rattle.model.proofs.Laws.Removable.{Removable, removable_one, removable_all, parent_away}
+use Rattle.model.proofs.Laws.Counts.{outside_stored, remove_stored}
 use Rattle.frames.specs.declared.Frames.{Frames}
 use Rattle.frames.specs.Frames.{frame_count, width_at, slot_at, raised}
 use Rattle.regions.specs.declared.Regions.{Regions}

@@ -28,7 +28,7 @@ use Rattle.lists.specs.Laws.Ticks.{blank_at}
 use Rattle.outcomes.specs.Store.{Store}
 use Rattle.outcomes.specs.Outcome.{store, blank, MakeOutcome}
 use Rattle.outcomes.specs.Shape.{Sized}
-use Rattle.outcomes.specs.Laws.Sized.{blank_sized}
+use Rattle.outcomes.proofs.Laws.Sized.{blank_sized}
 use Rattle.refinement.specs.Represents.{Represents, EntryAgrees, RoomAgrees}
 
 module _ (n : ℕ) where

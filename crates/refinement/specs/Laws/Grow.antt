@@ -23,11 +23,11 @@ use Rattle.lists.specs.Laws.Sets.{get_d_sets_in, get_d_sets_out}
 use Rattle.model.specs.Model.{Model, Region, Object, Answer, no_object, no_region, called, live, region, object, marks, lives_in, home_in, into, free_into, in_frames, from_object, in_words, stored, declare, new_region, subregion}
 use Rattle.model.specs.Calls.{checks, refusal, reply, accepted, with_kinds, add_region}
 use Rattle.model.specs.Valid.{Valid}
-use Rattle.model.specs.Laws.Passed.{passed}
-use Rattle.model.specs.Laws.Slots.{object_valid}
-use Rattle.model.specs.Laws.Regions.{live_all, live_more, live_less, region_more}
-use Rattle.model.specs.Laws.Grows.{marks_append}
-use Rattle.model.specs.Laws.Counts.{declare_stored, region_stored}
+use Rattle.model.proofs.Laws.Passed.{passed}
+use Rattle.model.proofs.Laws.Slots.{object_valid}
+use Rattle.model.proofs.Laws.Regions.{live_all, live_more, live_less, region_more}
+use Rattle.model.proofs.Laws.Grows.{marks_append}
+use Rattle.model.proofs.Laws.Counts.{declare_stored, region_stored}
 use Rattle.kinds.specs.declared.Kinds.{Kinds}
 use Rattle.kinds.specs.Kinds.{kind_count, size_of, mark_at, with_kind, size_in}
 use Rattle.regions.specs.declared.Regions.{Regions}

@@ -18,9 +18,9 @@ use Rattle.lists.specs.Laws.UpTo.{all_from, sum_change, sum_from_suc}
 use Rattle.model.specs.Model.{Model, Object, no_object, object, marks, lives_in, home_in, home_of, parent_in, allowed}
 use Rattle.model.specs.Calls.{size, page_for, word_for, add_object}
 use Rattle.model.specs.Valid.{Valid, known, fine}
-use Rattle.model.specs.Laws.Slots.{Known, object_valid}
-use Rattle.model.specs.Laws.Regions.{live_map, in_range}
-use Rattle.model.specs.Laws.Grows.{change, name_kept}
+use Rattle.model.proofs.Laws.Slots.{Known, object_valid}
+use Rattle.model.proofs.Laws.Regions.{live_map, in_range}
+use Rattle.model.proofs.Laws.Grows.{change, name_kept}
 use Rattle.regions.specs.declared.Regions.{Regions}
 use Rattle.regions.specs.Regions.{tag_of}
 use Rattle.pages.specs.declared.Pages.{Pages}

@@ -14,7 +14,7 @@ use Rattle.lists.specs.Laws.UpTo.{all_up_to, sum_below, sum_places}
 use Rattle.model.specs.Model.{Model, object, marks, lives_in, home_in, held_by, lowest_free, top_place, top, slot}
 use Rattle.model.specs.Calls.{lacks}
 use Rattle.model.specs.Valid.{Valid}
-use Rattle.model.specs.Laws.Slots.{Known, slot_known, object_valid}
+use Rattle.model.proofs.Laws.Slots.{Known, slot_known, object_valid}
 use Rattle.frames.specs.declared.Frames.{Frames}
 use Rattle.frames.specs.Frames.{frame_count, top_frame, width_at, slot_at}
 use Rattle.kinds.specs.declared.Kinds.{Kinds}

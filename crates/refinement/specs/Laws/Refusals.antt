@@ -18,9 +18,9 @@ use Rattle.model.specs.Model.{Model, Call, declare, new_region, subregion, push,
 use Rattle.model.specs.Model.{region, lives_in, home_in, parent_in, held_by, top, beneath, slot, in_slot, slot_marks, mark_at, above, allowed, in_frames, stored, outside, subregions, closed, outside_but}
 use Rattle.model.specs.Calls.{wrong_names, checks, query_checks, refusal, lacks, no_frame, one_frame, null, no_word, no_filler, dead, size, fits}
 use Rattle.model.specs.Valid.{Valid}
-use Rattle.model.specs.Laws.Passed.{step, names_agree}
-use Rattle.model.specs.Laws.Slots.{slot_lives}
-use Rattle.model.specs.Laws.Counts.{outside_stored}
+use Rattle.model.proofs.Laws.Passed.{step, names_agree}
+use Rattle.model.proofs.Laws.Slots.{slot_lives}
+use Rattle.model.proofs.Laws.Counts.{outside_stored}
 use Rattle.kinds.specs.Kinds.{size_of, mark_at as kind_mark, wrong_marks, all_data as only_data}
 use Rattle.regions.specs.Regions.{count_at, name_of, entry_of, tag_of, newest_at, above_in, allows_in}
 use Rattle.pages.specs.Pages.{taken_at, owner_of}

@@ -13,9 +13,9 @@ use Rattle.lists.specs.Laws.UpTo.{sum_below, sum_part}
 use Rattle.model.specs.Model.{Model, Answer, report, Object, Region, no_object, object, live, lives_in, home_in, parent_in, free_into, outside}
 use Rattle.model.specs.Calls.{checks, refusal, reply, accepted}
 use Rattle.model.specs.Valid.{Valid, Distinct, fine}
-use Rattle.model.specs.Laws.Passed.{passed}
-use Rattle.model.specs.Laws.Slots.{object_valid}
-use Rattle.model.specs.Laws.Counts.{outside_stored}
+use Rattle.model.proofs.Laws.Passed.{passed}
+use Rattle.model.proofs.Laws.Slots.{object_valid}
+use Rattle.model.proofs.Laws.Counts.{outside_stored}
 use Rattle.regions.specs.declared.Regions.{Regions}
 use Rattle.regions.specs.Regions.{entry_of, tag_of}
 use Rattle.pages.specs.declared.Pages.{Pages}

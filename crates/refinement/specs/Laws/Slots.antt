@@ -12,9 +12,9 @@ use Rattle.lists.specs.Laws.Finds.{every_true}
 use Rattle.model.specs.Model.{Model, Answer, region, lives_in, top_place, top, beneath, slot, in_slot, slot_marks, mark_at, gives, four, first, copy, fetch, clear, load, get, view, same, about, totals, Query, locate, ask}
 use Rattle.model.specs.Calls.{checks, query_checks, refusal, reply, query_reply, accepted, fill_slot, lacks, null, no_word}
 use Rattle.model.specs.Valid.{Valid}
-use Rattle.model.specs.Laws.Passed.{passed}
-use Rattle.model.specs.Laws.Slots.{slot_lives}
-use Rattle.model.specs.Laws.Counts.{fill_stored}
+use Rattle.model.proofs.Laws.Passed.{passed}
+use Rattle.model.proofs.Laws.Slots.{slot_lives}
+use Rattle.model.proofs.Laws.Counts.{fill_stored}
 use Rattle.frames.specs.declared.Frames.{Frames}
 use Rattle.frames.specs.Frames.{top_frame, width_at, slot_at, put_slot}
 use Rattle.regions.specs.Laws.Recount.{beside_same}

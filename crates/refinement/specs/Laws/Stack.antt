@@ -18,10 +18,10 @@ use Rattle.lists.specs.Laws.Sets.{get_d_sets_in, get_d_sets_out}
 use Rattle.model.specs.Model.{Model, Answer, lives_in, home_in, top_place, top, beneath, slot, in_frames, stored, gives, push, drop_frame, hand_back}
 use Rattle.model.specs.Calls.{checks, refusal, reply, accepted, lacks, pop_frame}
 use Rattle.model.specs.Valid.{Valid}
-use Rattle.model.specs.Laws.Passed.{passed, filler_one}
-use Rattle.model.specs.Laws.Slots.{pop_valid}
+use Rattle.model.proofs.Laws.Passed.{passed, filler_one}
+use Rattle.model.proofs.Laws.Slots.{pop_valid}
 use Rattle.model.specs.Moves.{uncounted}
-use Rattle.model.specs.Laws.Counts.{push_stored, pop_stored, zero_uncounted, none_uncounted, top_uncounted}
+use Rattle.model.proofs.Laws.Counts.{push_stored, pop_stored, zero_uncounted, none_uncounted, top_uncounted}
 use Rattle.frames.specs.declared.Frames.{Frames}
 use Rattle.frames.specs.Frames.{top_frame, width_at, slot_at, pushed, uncounts, popped, uncounts_in}
 use Rattle.regions.specs.Regions.{tag_of}

@@ -16,8 +16,8 @@ use Rattle.lists.specs.Laws.Kept.{all_each, among_self, all_among}
 use Rattle.lists.specs.Laws.UpTo.{any_one, one_passes, sum_below}
 use Rattle.model.specs.Model.{Model, no_region, called, region, lives_in, parent_in, subregions, climb, above}
 use Rattle.model.specs.Valid.{Valid}
-use Rattle.model.specs.Laws.Regions.{distinct_once, found_itself}
-use Rattle.model.specs.Laws.Climb.{climb_map, parent_lives, level_deep, above_enough}
+use Rattle.model.proofs.Laws.Regions.{distinct_once, found_itself}
+use Rattle.model.proofs.Laws.Climb.{climb_map, parent_lives, level_deep, above_enough}
 use Rattle.regions.specs.declared.Regions.{Regions}
 use Rattle.regions.specs.Laws.Entries.{name_none, name_of_lem, entry_find, entry_found, unused_found}
 use Rattle.regions.specs.Regions.{name_at, name_of, entry_of, tag_of, is_live, live_count, parent_at, subregions_of, unused, entry_in, live_in, name_in, subregions_in, level_at, up_in, level_in, above_in}

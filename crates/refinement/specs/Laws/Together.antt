@@ -16,8 +16,8 @@ use Rattle.lists.specs.Laws.Finds.{any_map, any_same, any_sum, any_count, any_sw
 use Rattle.lists.specs.Laws.UpTo.{sum_below}
 use Rattle.model.specs.Model.{Model, lives_in, home_in, parent_in, into, in_frames, outside, stored, closed, outside_but}
 use Rattle.model.specs.Valid.{Valid}
-use Rattle.model.specs.Laws.Regions.{found_itself}
-use Rattle.model.specs.Laws.Counts.{outside_stored, words_parted, from_one}
+use Rattle.model.proofs.Laws.Regions.{found_itself}
+use Rattle.model.proofs.Laws.Counts.{outside_stored, words_parted, from_one}
 use Rattle.regions.specs.declared.Regions.{Regions}
 use Rattle.regions.specs.Regions.{name_at, entry_of, tag_of, parent_at, follows_in, closed_in, count_at}
 use Rattle.regions.specs.Laws.Counts.{rolled_exact}

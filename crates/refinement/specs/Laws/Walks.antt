@@ -16,7 +16,7 @@ use Rattle.lists.specs.Laws.Sums.{sum_map, sum_keep, sum_joined, sum_same}
 use Rattle.lists.specs.Laws.UpTo.{sum_below, sum₂_places}
 use Rattle.model.specs.Model.{Model, object, marks, home_in}
 use Rattle.model.specs.Valid.{Valid}
-use Rattle.model.specs.Laws.Slots.{object_valid}
+use Rattle.model.proofs.Laws.Slots.{object_valid}
 use Rattle.kinds.specs.declared.Kinds.{Kinds}
 use Rattle.kinds.specs.Kinds.{size_of, mark_at}
 use Rattle.pages.specs.declared.Pages.{Pages}

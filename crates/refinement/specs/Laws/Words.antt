@@ -11,11 +11,11 @@ use Rattle.lists.specs.Laws.Tests.{neither, by_same, pick_same, eqb_sym}
 use Rattle.model.specs.Model.{Model, Object, Answer, no_object, object, marks, lives_in, home_in, top, slot, in_slot, slot_marks, mark_at, stored, put, set_pointer}
 use Rattle.model.specs.Calls.{checks, refusal, reply, accepted, lacks, null, replaced, with_word, write_word}
 use Rattle.model.specs.Valid.{Valid}
-use Rattle.model.specs.Laws.Regions.{homes_kept}
-use Rattle.model.specs.Laws.Slots.{Known, slot_lives, in_list}
+use Rattle.model.proofs.Laws.Regions.{homes_kept}
+use Rattle.model.proofs.Laws.Slots.{Known, slot_lives, in_list}
 use Rattle.model.specs.Moves.{weighs, moves}
-use Rattle.model.specs.Laws.Passed.{passed, filler_one}
-use Rattle.model.specs.Laws.Moves.{accepted_stored}
+use Rattle.model.proofs.Laws.Passed.{passed, filler_one}
+use Rattle.model.proofs.Laws.Moves.{accepted_stored}
 use Rattle.regions.specs.declared.Regions.{Regions}
 use Rattle.regions.specs.Regions.{entry_of, tag_of, count_at}
 use Rattle.regions.specs.Laws.Recount.{Beside, beside_same, recount_beside}

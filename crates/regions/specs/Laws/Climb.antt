@@ -6,7 +6,7 @@ use native.Mathlib.Omega.{arith}
 use borrow.Author.Tests.{eq-eqb, ne_eqb}
 use Rattle.lists.specs.Lists.{among}
 use Rattle.model.specs.Model.{climb}
-use Rattle.model.specs.Laws.Climb.{climb_end}
+use Rattle.model.proofs.Laws.Climb.{climb_end}
 use Rattle.regions.specs.Regions.{name_in, up_in}
 
 -- whether a region named n is met on the way up from the one with tag t, in k steps
