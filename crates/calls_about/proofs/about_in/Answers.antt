@@ -5,7 +5,7 @@ use Rattle.pages.specs.Pages.{owner_of}
 use Rattle.objects.specs.Laws.Words.{object_header}
 use Rattle.outcomes.specs.Store.{slot}
 use Rattle.outcomes.specs.Outcome.{Accepted}
-use Rattle.outcomes.specs.Laws.Steps.{by_refusal, by_effect}
+use Rattle.outcomes.proofs.Laws.Steps.{by_refusal, by_effect}
 use Rattle.calls_about.proofs.Laws.{about_tests}
 use Rattle.calls_about.proofs.about_in.Goals as goal
 

@@ -3,7 +3,7 @@ use borrow.Author.Tests.{eq-eqb, ne_eqb}
 use Rattle.frames.specs.Frames.{slot_at, top_frame}
 use Rattle.outcomes.specs.Store.{slot}
 use Rattle.outcomes.specs.Outcome.{Accepted}
-use Rattle.outcomes.specs.Laws.Steps.{by_refusal, by_effect}
+use Rattle.outcomes.proofs.Laws.Steps.{by_refusal, by_effect}
 use Rattle.calls_about.proofs.Laws.{same_tests}
 use Rattle.calls_about.proofs.same_in.Goals as goal
 

@@ -2,7 +2,7 @@ use mathlib.Core.Path.{refl, ◌∙◌}
 use Rattle.regions.specs.Regions.{live_count}
 use Rattle.pages.specs.Pages.{pages_of}
 use Rattle.outcomes.specs.Outcome.{Accepted, refusal, checks}
-use Rattle.outcomes.specs.Laws.Steps.{by_effect}
+use Rattle.outcomes.proofs.Laws.Steps.{by_effect}
 use Rattle.calls_about.proofs.totals_in.Goals as goal
 
 pub returns : goal.returns

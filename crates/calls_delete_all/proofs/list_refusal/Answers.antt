@@ -7,9 +7,9 @@ use lib.Dec.{ltb}
 use borrow.Author.Tests.{eq-eqb, ne_eqb}
 use Rattle.lists.specs.Lists.{pick}
 use Rattle.model.specs.Calls.{◌yields◌, reason, wrong_names, name_tests}
-use Rattle.model.specs.Laws.Passed.{names_numbers}
+use Rattle.model.proofs.Laws.Passed.{names_numbers}
 use Rattle.regions.specs.Regions.{closed_in}
-use Rattle.outcomes.specs.Laws.Steps.{reason_append}
+use Rattle.outcomes.proofs.Laws.Steps.{reason_append}
 use Rattle.checks.specs.Checks.{first_refusal, filler_tests}
 use Rattle.lists.specs.Ticks.{tick_at, ticked}
 use Rattle.members.specs.Members.{tag_by, dead_by}
