@@ -10,7 +10,7 @@ use Rattle.regions.specs.Laws.Counts.{Shares}
 use Rattle.state.specs.declared.State.{State}
 use Rattle.outcomes.specs.Store.{Store}
 use Rattle.outcomes.specs.Outcome.{Outcome, refusal, checks, Accepted, store}
-use Rattle.outcomes.specs.Laws.Steps.{by_effect}
+use Rattle.outcomes.proofs.Laws.Steps.{by_effect}
 use Rattle.calls_audit.specs.Passes.{passes}
 use Rattle.calls_audit.specs.Laws.Exact.{passes_same}
 use Rattle.calls_audit.proofs.audit_in.Goals as goal
