@@ -1,4 +1,6 @@
 // The calls that make regions (document 01's calls 3 and 4).
+#![tactic(auto)]
+
 ghost use Rattle.std.specs.Prelude.{◌≡◌};
 ghost use Rattle.model.specs.Model.{new_region, subregion};
 ghost use Rattle.model.specs.Calls.{reason};
