@@ -1,4 +1,6 @@
 // The calls that make a store and its kinds (document 01's calls 1 and 2).
+#![tactic(auto)]
+
 ghost use Rattle.std.specs.Prelude.{◌≡◌, []};
 ghost use Rattle.model.specs.Model.{declare};
 ghost use Rattle.model.specs.Calls.{reason, makes};
