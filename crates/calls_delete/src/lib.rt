@@ -1,4 +1,6 @@
 // The call delete, in the order of source document 000, chapter 4.5: the tests, the scan; then the pages are given back, which is the region library's part there.
+#![tactic(auto)]
+
 ghost use Rattle.model.specs.Model.{delete};
 ghost use Rattle.lent.specs.Lent.{InPlace, with_made, with_standing, with_counted, with_declared, with_widths, with_slots, with_sizes, with_marks, with_names, with_parents, with_shares, with_owners, with_taken};
 
