@@ -217,9 +217,9 @@ told_step {N} {L} {S} {h} k e o = subst⁻¹ (λ n. (e.answer ≡ answer_by (ref
 pub run_told : {N : ℕ} {L : Model} {S T : Store} {h : History} {es : List Event} → Told N L S h → Run S es T → (answers es ≡ run L (calls es)) × Told N (after L (calls es)) T (history h es)
 unfolding run
 run_told k done = (refl, k)
-run_told k (step {S} {U} {e} {es} o r) =
+run_told {N = N} {L = L} {h = h} k (step {S = S} {U = U} {e = e} {es = es} o r) =
     let f = told_step k e o in
-    let m = run_told f.1 r in
+    let m = run_told {L = next L e.call} f.1 r in
     (ap₂ ◌∷◌ f.0 m.0, m.1)
 
 -- a store that stands for a valid model begins a history that tells of both; so it answers as the model does, and stands for the model's next
