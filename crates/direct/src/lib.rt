@@ -1,5 +1,7 @@
 // The calls that a program makes most, for hosts in other languages: each by itself, on what it reads and writes of the state alone. A function gives the refusal's number, 0 where the call was accepted, and writes its values, 0 where it was refused.
 // What a host answers for is the same as in abi: pointers are aligned and not null, also where a length is 0, lengths are true, and no two buffers overlap. A library of its own beside abi's: here each call stands once, and is compiled into its function.
+#![tactic(auto)]
+
 ghost use Rattle.std.specs.Prelude.{List, [], ◌∷◌, ℕ};
 ghost use Rattle.model.specs.Model.{declare, new_region, subregion, push, drop_frame, hand_back, allocate, first, copy, fetch, clear, load, set_pointer, put, get, same, about, report, totals, delete, locate, ask};
 ghost use Rattle.lent.specs.Lent.{InPlace, with_made, with_standing, with_counted, with_declared, with_given, with_widths, with_slots, with_sizes, with_marks, with_names, with_parents, with_levels, with_shares, with_newest, with_oldest, with_owners, with_taken};

@@ -67,15 +67,15 @@ left_fits q memory memory' heap heap' reply k sent (s, t, r, h, _, _, o) = go (i
     go true (part, u) = (keeps_shape (call_of q) (store s heap) (answer_of r part) (store t heap') sent (held_shaped s memory heap h k) u).0.bounded.heap
     go false (_, same) = subst⁻¹ Bits32 (ap (λ (S : Store). S.heap) same) k
 
-mixed : {before after : List (List ℕ)} {heap heap' : List ℕ} {qs : List Request} {replies : List (List ℕ)} → Bits32 heap → All (λ q. Sent (call_of q)) qs
-    → Mixed before heap qs replies after heap' → Driven before heap qs replies after heap'
+mixed : {before after : List (List ℕ)} {heap heap' : List ℕ} {qs : List Request} {replies : List (List ℕ)} → Mixed before heap qs replies after heap' → Bits32 heap → All (λ q. Sent (call_of q)) qs
+    → Driven before heap qs replies after heap'
 unfolding DirectCalled
-mixed k sent nothing = ended
-mixed {heap = heap} {qs = q ∷ qs} {replies = y ∷ replies} k (sent, rest) (more {before = m} {after = n} {heap' = left} (inl o) d) = asked o (mixed (left_fits q m n heap left y k sent o) rest d)
-mixed {heap = heap} {qs = q ∷ qs} {replies = y ∷ replies} k (sent, rest) (more {before = m} {after = n} {heap' = left} (inr o) d) =
+mixed nothing k sent = ended
+mixed {heap = heap} (more {before = m} {after = n} {heap' = left} {q = q} {reply = y} (inl o) d) k (sent, rest) = asked o (mixed d (left_fits q m n heap left y k sent o) rest)
+mixed {heap = heap} (more {before = m} {after = n} {heap' = left} {q = q} {reply = y} (inr o) d) k (sent, rest) =
     let p = direct_called q m n heap left y k sent o in
-    asked p (mixed (left_fits q m n heap left y k sent p) rest d)
+    asked p (mixed d (left_fits q m n heap left y k sent p) rest)
 
 pub mixed_driven : MixedDriven
 unfolding MixedDriven
-mixed_driven before after heap heap' qs replies k sent d = mixed k sent d
+mixed_driven before after heap heap' qs replies k sent d = mixed d k sent

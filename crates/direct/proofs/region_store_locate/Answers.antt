@@ -1,0 +1,8 @@
+use mathlib.Core.Path.{refl}
+use Rattle.outcomes.specs.Outcome.{Accepted, query_reply}
+use Rattle.direct.proofs.Laws.{by_numbers}
+use Rattle.direct.proofs.region_store_locate.Goals as goal
+
+pub returns : goal.returns
+unfolding Accepted query_reply
+returns c s = by_numbers 2 _ (λ g. refl) (λ S T a o. (_, o.0, refl)) _ _ _ (c.locate_in-r.ensures s)
