@@ -1,4 +1,6 @@
 // Allocate (document 01's call 8), and where a region's next object stands.
+#![tactic(auto)]
+
 ghost use Rattle.std.specs.Prelude.{◌≡◌, ℕ, ◌<◌, ◌≤◌, get_or};
 ghost use Rattle.model.specs.Model.{allocate};
 ghost use Rattle.model.specs.Calls.{reason};
