@@ -1,5 +1,4 @@
 use mathlib.Core.Path.{◌≡◌, refl, ◌∙◌}
-use Prim.Native.Nat.{◌-◌}
 use native.Mathlib.Omega.{arith}
 use borrow.Author.Rules.{rules}
 use Rattle.frames.specs.Frames.{width_in}
@@ -13,12 +12,11 @@ unfolding steps
 loop-k-init c = (c.width_at-w.ensures, search rules, refl)
 
 pub loop-k-preserved : goal.loop-k-preserved
-loop-k-preserved c =
-     (
-      c.loop-k.invariant.0,
-      omega arith,
-      c.enter.ensures ∙ rw (c.loop-k.invariant.2, c.owner_of-t.ensures, c.slot_at.ensures) (step_next c.args.slots.now c.args.owners.now c.args.i 1 c.args.filler c.args.shares.now c.loop-k.k),
-    )
+loop-k-preserved c = (
+  c.loop-k.invariant.0,
+  omega arith,
+  c.enter.ensures ∙ rw (c.loop-k.invariant.2, c.owner_of-t.ensures, c.slot_at.ensures) (step_next c.args.slots.now c.args.owners.now c.args.i 1 c.args.filler c.args.shares.now c.loop-k.k),
+)
 
 pub returns : goal.returns
 unfolding targets_in

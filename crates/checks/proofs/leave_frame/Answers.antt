@@ -1,5 +1,4 @@
 use mathlib.Core.Path.{◌≡◌, refl, ◌∙◌}
-use Prim.Native.Nat.{◌-◌}
 use native.Mathlib.Omega.{arith}
 use borrow.Author.Rules.{rules}
 use Rattle.frames.specs.Frames.{width_in}
@@ -13,12 +12,11 @@ unfolding steps
 loop-s-init c = (c.width_at-n.ensures, search rules, refl)
 
 pub loop-s-preserved : goal.loop-s-preserved
-loop-s-preserved c =
-     (
-      c.loop-s.invariant.0,
-      omega arith,
-      c.leave.ensures ∙ rw (c.loop-s.invariant.2, c.owner_of-t.ensures, c.slot_at.ensures) (step_next c.args.slots.now c.args.owners.now c.args.i 4294967295 c.args.filler c.args.shares.now c.loop-s.s),
-    )
+loop-s-preserved c = (
+  c.loop-s.invariant.0,
+  omega arith,
+  c.leave.ensures ∙ rw (c.loop-s.invariant.2, c.owner_of-t.ensures, c.slot_at.ensures) (step_next c.args.slots.now c.args.owners.now c.args.i 4294967295 c.args.filler c.args.shares.now c.loop-s.s),
+)
 
 pub returns : goal.returns
 unfolding targets_in

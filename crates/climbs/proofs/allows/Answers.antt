@@ -41,7 +41,7 @@ unfolding allows_in
 returns-then-m-eq1 c = rw c.if-m-eq1.true
 
 pub returns-then-m-eq2 : goal.returns-then-m-eq2
-returns-then-m-eq2 c =  same _ _ _ _ _ _ _ _ c.name_of-to.ensures c.name_of-own.ensures c.if-m-eq2.true
+returns-then-m-eq2 c = same _ _ _ _ _ _ _ _ c.name_of-to.ensures c.name_of-own.ensures c.if-m-eq2.true
 
 pub returns-then-to-own : goal.returns-then-to-own
 returns-then-to-own c =
@@ -56,7 +56,7 @@ returns-then-m-eq3 c =
     up-climb _ _ _ _ _ _ _ _ c.name_of-to.ensures c.name_of-own.ensures c.if-m-eq3.true other-region _ climbs
 
 pub returns-then-m-eq4 : goal.returns-then-m-eq4
-returns-then-m-eq4 c =  forever _ _ _ _ _ _ _ _ c.name_of-to.ensures c.name_of-own.ensures c.if-m-eq4.true
+returns-then-m-eq4 c = forever _ _ _ _ _ _ _ _ c.name_of-to.ensures c.name_of-own.ensures c.if-m-eq4.true
 
 pub returns : goal.returns
 returns c = none _ _ _ _ _ _ c.if-m-eq1.false c.if-m-eq2.false c.if-m-eq3.false c.if-m-eq4.false

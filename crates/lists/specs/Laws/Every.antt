@@ -3,7 +3,7 @@
 use Rattle.std.specs.Prelude.{◌≡◌, refl, Bool, true, false, not, ◌&&◌, ◌||◌, List, [], ◌∷◌, map, ℕ, ◌+◌, ◌≤◌, ◌<◌}
 use Rattle.std.proofs.Common.{sym, ap, ap₂, ◌∙◌, true≢false, arith, below_none, below_more}
 use Rattle.std.proofs.lemmas.Bool.{false≢true}
-use Rattle.lists.specs.Lists.{pick, every, keep, equal, All, joined, up_to}
+use Rattle.lists.specs.Lists.{pick, every, keep, equal, joined, up_to}
 use Rattle.lists.specs.Laws.Tests.{both, by_test}
 use Rattle.lists.specs.Laws.Finds.{every_append, every_same}
 use Rattle.lists.specs.Laws.UpTo.{all_up_to, every_each, each_every}

@@ -1,6 +1,6 @@
 -- Every row of the table holds, and every further row: one computed test over each list, and the claims of its rows from it.
 -- Assumes nothing.
-use Rattle.std.specs.Prelude.{◌≡◌, refl, Bool, true, false, ◌&&◌, ◌||◌, List, ℕ, eqb, length}
+use Rattle.std.specs.Prelude.{◌≡◌, refl, Bool, true, false, ◌&&◌, ◌||◌, List, eqb, length}
 use Rattle.std.proofs.Common.{eqb-true}
 use Rattle.lists.specs.Lists.{every, equal, All}
 use Rattle.lists.specs.Laws.All.{all_map}

@@ -1,4 +1,4 @@
-use Rattle.std.proofs.Common.{◌≡◌, ◌+◌, ◌-◌, ap, ◌∙◌, arith, eq-eqb, ne_eqb}
+use Rattle.std.proofs.Common.{◌≡◌, ◌+◌, ap, ◌∙◌, arith, eq-eqb, ne_eqb}
 use Rattle.lists.specs.Lists.{bit, count_of, up_to}
 use Rattle.lists.specs.Laws.Sums.{count_most}
 use Rattle.lists.specs.Laws.UpTo.{count_next, length_up_to}
