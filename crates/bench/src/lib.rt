@@ -1,5 +1,7 @@
 // What the calls cost: `bench`, which C calls, makes a store in the heap that it is lent, then makes n calls on it.
 // A call costs the difference of two runs that differ by so many calls: making the store cancels out.
+#![tactic(auto)]
+
 use frames::Frames;
 use kinds::Kinds;
 use pages::Pages;
