@@ -1,4 +1,6 @@
 // The calls by value, as document 01 has them: each takes the state apart, lends what its call in place reads and changes, and lays back what that changed. No rule stands here.
+#![tactic(auto)]
+
 ghost use Rattle.std.specs.Prelude.{◌≡◌, List, [], ℕ};
 ghost use Rattle.model.specs.Model.{declare, new_region, subregion, push, drop_frame, hand_back, allocate, first, copy, fetch, clear, load, set_pointer, put, get, view, same, about, report, totals, audit, delete, delete_all, locate, ask};
 ghost use Rattle.outcomes.specs.Shape.{Bits32, Sized, Shaped};

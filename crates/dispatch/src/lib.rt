@@ -1,4 +1,6 @@
 // Any call by its number, in place.
+#![tactic(auto)]
+
 ghost use Rattle.outcomes.specs.Outcome.{store};
 ghost use Rattle.lent.specs.Lent.{state_of};
 ghost use Rattle.dispatch.specs.Dispatch.{Dispatched};
