@@ -1,4 +1,6 @@
 // The region store: what a user imports. Every call of document 01, and of document 02's cards, under its name, and `call`, which takes the call's number: by value, and in place with `_in` after the name.
+#![tactic(auto)]
+
 ghost use Rattle.outcomes.specs.Outcome.{store};
 ghost use Rattle.dispatch.specs.Dispatch.{Dispatched};
 
