@@ -1,4 +1,6 @@
 // What a scanned line of a script does to the store that the script drives: a call, `pages`, or nothing. No function here reads input or writes output.
+#![tactic(auto)]
+
 ghost use Rattle.std.specs.Prelude.{◌≡◌, true, ◌≤◌, length, get_or, take};
 ghost use Rattle.model.specs.Model.{view};
 ghost use Rattle.state.specs.declared.State.{State};
