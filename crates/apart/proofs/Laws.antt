@@ -10,7 +10,7 @@ use lib.Dec.{eqb}
 use lib.ListN.{get_or, set}
 use lib.Seq.{set-get_or}
 use Rattle.lists.specs.Lists.{pick, count_of, up_to, zeroed}
-use Rattle.lists.specs.Laws.Tests.{bit_zero, by_test}
+use Rattle.lists.specs.Laws.Tests.{bit_zero}
 use Rattle.lists.specs.Laws.UpTo.{count_next}
 use Rattle.lists.specs.Laws.Zeroed.{below, zeroed_later, zeroed_own, zeroed_other}
 use Rattle.kinds.specs.declared.Kinds.{Kinds}

@@ -1,5 +1,4 @@
 use mathlib.Core.Path.{◌≡◌, refl, sym, ap, ◌∙◌}
-use Prim.Native.Nat.{◌-◌}
 use native.Mathlib.Omega.{arith}
 use borrow.Author.Rules.{rules}
 use Rattle.lists.specs.Lists.{up_to}
@@ -28,11 +27,13 @@ loop-j-preserved c =
       c.loop-j.invariant.0,
       omega arith,
       elim c.if-is_member.branch [
-      then-is_member w ↦ w.owners-is ∙ w.put_byte.ensures ∙ rw c.loop-j.invariant.2 (zeroed_own f c.args.owners.now c.loop-j.j (sym own ∙ w.if-is_member.true))
-      | else-is_member w ↦ w.owners-is ∙ c.loop-j.invariant.2 ∙ zeroed_other f c.args.owners.now c.loop-j.j (sym own ∙ w.if-is_member.false) ],
+        | then-is_member w ↦ w.owners-is ∙ w.put_byte.ensures ∙ rw c.loop-j.invariant.2 (zeroed_own f c.args.owners.now c.loop-j.j (sym own ∙ w.if-is_member.true))
+        | else-is_member w ↦ w.owners-is ∙ c.loop-j.invariant.2 ∙ zeroed_other f c.args.owners.now c.loop-j.j (sym own ∙ w.if-is_member.false)
+      ],
       rw (count_next f c.loop-j.j, ← own) (elim c.if-is_member.branch [
-      then-is_member w ↦ rw w.if-is_member.true (omega arith)
-      | else-is_member w ↦ rw w.if-is_member.false (omega arith) ]),
+        | then-is_member w ↦ rw w.if-is_member.true (omega arith)
+        | else-is_member w ↦ rw w.if-is_member.false (omega arith)
+      ]),
     )
 
 pub returns : goal.returns

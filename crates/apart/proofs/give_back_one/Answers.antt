@@ -1,5 +1,4 @@
 use mathlib.Core.Path.{◌≡◌, refl, ◌∙◌}
-use Prim.Native.Nat.{◌-◌}
 use native.Mathlib.Omega.{arith}
 use borrow.Author.Rules.{rules}
 use Rattle.lists.specs.Laws.Zeroed.{zeroed_none}
@@ -14,12 +13,11 @@ loop-j-init c =
     (c.page_count-n.ensures, search rules, zeroed_none (its c.args.owners.now c.args.tag) c.args.owners.now)
 
 pub loop-j-preserved : goal.loop-j-preserved
-loop-j-preserved c =
-     (
-      c.loop-j.invariant.0,
-      omega arith,
-      c.put_byte.ensures ∙ zeroed_without c.args.tag c.args.owners.now c.loop-j.j _ _ _ c.loop-j.invariant.2 c.owner_byte-t.ensures c.without.ensures,
-    )
+loop-j-preserved c = (
+  c.loop-j.invariant.0,
+  omega arith,
+  c.put_byte.ensures ∙ zeroed_without c.args.tag c.args.owners.now c.loop-j.j _ _ _ c.loop-j.invariant.2 c.owner_byte-t.ensures c.without.ensures,
+)
 
 pub returns : goal.returns
 unfolding pages_in

@@ -1,5 +1,4 @@
 use mathlib.Core.Path.{◌≡◌, refl, sym, ap, ◌∙◌}
-use Prim.Native.Nat.{◌-◌}
 use native.Mathlib.Omega.{arith}
 use borrow.Author.Rules.{rules}
 use Rattle.kinds.specs.Kinds.{kinds_with}
@@ -20,13 +19,13 @@ pub loop-j-preserved : goal.loop-j-preserved
 unfolding owner_at taken_at
 loop-j-preserved c =
     let k = kinds_with c.args.declared c.args.sizes.now c.args.marks.now in
-    let p = pages_with c.args.made c.args.owners.now c.args.taken.now in
-     (
+    let p = pages_with c.args.made c.args.owners.now c.args.taken.now in (
       c.loop-j.invariant.0,
       omega arith,
       elim c.if-is_member.branch [
-      then-is_member w ↦ w.c-is ∙ w.leave_page.ensures (omega (arith, w.taken_at-m.ensures)) ∙ out_left (λ i. c.args.owners.now) k c.args.heap.now p (tick_at c.args.members.now) c.loop-j.j c.args.filler c.owner_at-t.result _ c.args.shares _ c.owner_at-t.ensures w.taken_at-m.ensures c.loop-j.invariant.2 (sym c.is_member.ensures ∙ w.if-is_member.true)
-      | else-is_member w ↦ w.c-is ∙ c.loop-j.invariant.2 ∙ ap (leavings c.args.filler c.args.shares) (out_other (λ i. c.args.owners.now) k c.args.heap.now p (tick_at c.args.members.now) c.loop-j.j (rw (← c.owner_at-t.ensures) (sym c.is_member.ensures ∙ w.if-is_member.false))) ],
+        | then-is_member w ↦ w.c-is ∙ w.leave_page.ensures (omega (arith, w.taken_at-m.ensures)) ∙ out_left (λ i. c.args.owners.now) k c.args.heap.now p (tick_at c.args.members.now) c.loop-j.j c.args.filler c.owner_at-t.result _ c.args.shares _ c.owner_at-t.ensures w.taken_at-m.ensures c.loop-j.invariant.2 (sym c.is_member.ensures ∙ w.if-is_member.true)
+        | else-is_member w ↦ w.c-is ∙ c.loop-j.invariant.2 ∙ ap (leavings c.args.filler c.args.shares) (out_other (λ i. c.args.owners.now) k c.args.heap.now p (tick_at c.args.members.now) c.loop-j.j (rw (← c.owner_at-t.ensures) (sym c.is_member.ensures ∙ w.if-is_member.false)))
+      ],
     )
 
 pub returns : goal.returns

@@ -9,7 +9,7 @@ use Rattle.kinds.specs.Kinds.{kind_count, size_of, mark_at, size_in}
 use Rattle.regions.specs.Regions.{name_at, name_of, name_in, entry_of, tag_of, is_live, parent_at, level_at, newest_at, oldest_at, subregions_of, closed_in, count_at, count_in, added, without_regions, with_shares, rolled, moved, entry_in, subregions_in, recount, follows_in}
 use Rattle.pages.specs.Pages.{wrong_length, page_count, is_free, owner_at, taken_at, owner_in, owner_of, pages_in, pages_of, freed, wrong_length_in, owners_to}
 use Rattle.objects.specs.Objects.{walk, headers_to, headers_on, free_words, free_words_on, free_words_of, out_of}
-use Rattle.outcomes.specs.Store.{Store, frames, regions, pages, led_into, led_among, slot_targets, targets_in, led_in, led_among_in}
+use Rattle.outcomes.specs.Store.{Store, pages, led_into, led_among, slot_targets, targets_in, led_in, led_among_in}
 use Rattle.outcomes.specs.History.{entries, listed_regions, listed_kinds, listed_frames, listed_held, listed_free, met_on, begin, slots_of, pointers_of, leads, home_of, slots_leading_to, words_leading_to, outside, uncounted_into, stored_count, counts_exact, slots_lead, words_lead, pages_held}
 use Rattle.outcomes.specs.Sound.{filled, placed, newest_own, oldest_own, sound}
 use Rattle.outcomes.specs.Outcome.{bad_length, dead, checks, refusal, count_but, recounted, outgoing, newly_counted, newly_in, deleted, Accepted, store, blank}

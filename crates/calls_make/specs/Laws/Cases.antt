@@ -8,7 +8,6 @@ use Rattle.kinds.specs.declared.Kinds.{Kinds}
 use Rattle.kinds.specs.Kinds.{mark_at, with_kind, wrong_marks}
 use Rattle.regions.specs.Regions.{live_count, live_in}
 use Rattle.pages.specs.Pages.{wrong_length, wrong_length_in}
-use Rattle.outcomes.specs.Store.{regions}
 use Rattle.outcomes.specs.Outcome.{bad_length, checks, refusal, blank}
 use Rattle.outcomes.specs.Examples.{small}
 

@@ -1,4 +1,4 @@
-use Rattle.std.proofs.Common.{◌≡◌, ℕ, ◌+◌, ◌-◌, ◌%◌, ◌<◌, ◌∙◌, arith}
+use Rattle.std.proofs.Common.{◌≡◌, ℕ, ◌+◌, ◌%◌, ◌<◌, ◌∙◌, arith}
 use Rattle.lists.specs.Lists.{times}
 use Rattle.lists.specs.Laws.UpTo.{from_next, from_end}
 use Rattle.outcomes.specs.Store.{targets_in, slots_beyond_in}

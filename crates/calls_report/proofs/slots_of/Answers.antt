@@ -47,8 +47,9 @@ pub loop-k-preserved : goal.loop-k-preserved
 loop-k-preserved c =
     let adds : c.if-owner_of-tag.sum ≡ c.loop-k.sum + bit (leads c.args.slots.now c.args.owners.now c.args.tag c.args.i c.loop-k.k) = rw (← reads c.args.slots.now c.part-frame.result.now (8 * c.args.i) c.width_at-n.result c.loop-k.k c.loop-k.invariant.1 (omega arith), ← c.owner_of.ensures)
     (elim c.if-owner_of-tag.branch [
-      then-owner_of-tag w ↦ rw (eq-eqb _ _ w.if-owner_of-tag.true) w.sum-is
-      | else-owner_of-tag w ↦ rw (ne_eqb _ _ w.if-owner_of-tag.false) (omega arith) ]) in
+      | then-owner_of-tag w ↦ rw (eq-eqb _ _ w.if-owner_of-tag.true) w.sum-is
+      | else-owner_of-tag w ↦ rw (ne_eqb _ _ w.if-owner_of-tag.false) (omega arith)
+    ]) in
     (c.loop-k.invariant.0, c.loop-k.invariant.1, omega arith, adds ∙ omega (arith, c.loop-k.invariant.3, count_next (leads c.args.slots.now c.args.owners.now c.args.tag c.args.i) c.loop-k.k))
 
 pub returns : goal.returns

@@ -20,8 +20,7 @@ loop-i-init c =
 pub loop-i-preserved : goal.loop-i-preserved
 loop-i-preserved c =
     let g : ℕ → List ℕ = targets_in c.args.widths.now c.args.slots.now c.args.owners.now in
-    let n = frame_count_in c.args.standing - 1 in
-     (
+    let n = frame_count_in c.args.standing - 1 in (
       c.loop-i.invariant.0,
       ap length c.enter_frame.ensures ∙ steps_length 1 _ c.loop-i.shares (g c.loop-i.i) ∙ c.loop-i.invariant.1,
       rw (c.enter_frame.ensures, steps_append 1 c.args.filler c.loop-i.shares (g c.loop-i.i) (joined g (from (c.loop-i.i + 1) (n - (c.loop-i.i + 1))))) (rw (from_next c.loop-i.i n (omega arith)) at c.loop-i.invariant.2),

@@ -1,7 +1,7 @@
 use mathlib.Core.Path.{◌≡◌, sym, ◌∙◌}
 use mathlib.Core.Bool.{Bool}
 use mathlib.Core.List.{List}
-use Prim.Native.Nat.{ℕ, suc, ◌-◌}
+use Prim.Native.Nat.{ℕ, suc}
 use native.Mathlib.Numerals.{add-one}
 use native.Mathlib.Omega.{arith}
 use Rattle.lists.specs.Ticks.{tick_at}
@@ -16,7 +16,7 @@ of-member members i = tick_at members (suc i)
 
 pub loop-i-init : goal.loop-i-init
 unfolding names_left
-loop-i-init c =  (omega arith, zeroed_none (of-member c.args.members.now) c.args.names.now)
+loop-i-init c = (omega arith, zeroed_none (of-member c.args.members.now) c.args.names.now)
 
 pub loop-i-preserved : goal.loop-i-preserved
 unfolding names_left
@@ -25,6 +25,7 @@ loop-i-preserved c =
     let f = of-member c.args.members.now in (
       omega arith,
       elim c.if-is_member.branch [
-      then-is_member w ↦ w.names-is ∙ w.put_word.ensures ∙ rw c.loop-i.invariant.1 (zeroed_own f c.args.names.now c.loop-i.i (sym own ∙ w.if-is_member.true))
-      | else-is_member w ↦ w.names-is ∙ c.loop-i.invariant.1 ∙ zeroed_other f c.args.names.now c.loop-i.i (sym own ∙ w.if-is_member.false) ],
+        | then-is_member w ↦ w.names-is ∙ w.put_word.ensures ∙ rw c.loop-i.invariant.1 (zeroed_own f c.args.names.now c.loop-i.i (sym own ∙ w.if-is_member.true))
+        | else-is_member w ↦ w.names-is ∙ c.loop-i.invariant.1 ∙ zeroed_other f c.args.names.now c.loop-i.i (sym own ∙ w.if-is_member.false)
+      ],
     )
