@@ -1,4 +1,4 @@
-use Rattle.std.proofs.Common.{◌≡◌, ◌<◌, not, eqb, get_or, sym, ap, ◌∙◌, arith, eq-eqb, ne_eqb}
+use Rattle.std.proofs.Common.{◌≡◌, not, eqb, get_or, sym, ap, ◌∙◌, arith, ne_eqb}
 use Rattle.lists.specs.Laws.UpTo.{find_first, find_default}
 use Rattle.memory.proofs.alike.Goals as goal
 
