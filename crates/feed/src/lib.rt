@@ -1,4 +1,6 @@
 // A session that a script drives, fed a chunk of bytes at a time: the lines are calls on one store, and each has its answer. No function here reads input or writes output.
+#![tactic(auto)]
+
 ghost use Rattle.std.specs.Prelude.{◌≡◌, List, ℕ, length, take};
 ghost use Rattle.feed.specs.Scripted.{Scripted, start, talk_of, Fed};
 
