@@ -1,4 +1,3 @@
-use Prim.Native.Nat.{◌-◌}
 use native.Mathlib.Omega.{arith}
 use Rattle.lists.specs.Laws.Every.{passed_not, passed_all}
 use Rattle.audit_counts.specs.Counts.{is_zero, all_zero}
@@ -11,4 +10,4 @@ returns-then-not-is_zero c =
 
 pub returns : goal.returns
 unfolding all_zero
-returns c =   passed_all (is_zero c.args.names.now c.args.shares.now) 64 c.loop-i.i c.loop-i.invariant (omega arith)
+returns c = passed_all (is_zero c.args.names.now c.args.shares.now) 64 c.loop-i.i c.loop-i.invariant (omega arith)

@@ -1,8 +1,7 @@
-use Prim.Native.Nat.{◌-◌}
 use native.Mathlib.Omega.{arith}
 use Rattle.lists.specs.Laws.Every.{passed_not, passed_all}
 use Rattle.pages.specs.Pages.{page_count_in}
-use Rattle.audit_heap.specs.Heap.{page_fits, pages_fit}
+use Rattle.audit_heap.specs.Heap.{pages_fit}
 use Rattle.audit_heap.proofs.pages_fit.Goals as goal
 
 pub returns-then-not-page_fits : goal.returns-then-not-page_fits

@@ -1,4 +1,3 @@
-use Prim.Native.Nat.{◌-◌}
 use native.Mathlib.Omega.{arith}
 use Rattle.lists.specs.Ticks.{tick_at}
 use Rattle.lists.specs.Laws.Every.{passed_not, passed_all}

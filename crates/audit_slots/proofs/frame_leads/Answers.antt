@@ -1,8 +1,7 @@
-use Prim.Native.Nat.{◌-◌}
 use native.Mathlib.Omega.{arith}
 use Rattle.lists.specs.Laws.Every.{passed_not, passed_all}
 use Rattle.frames.specs.Frames.{width_in}
-use Rattle.audit_slots.specs.Leads.{known, frame_leads}
+use Rattle.audit_slots.specs.Leads.{frame_leads}
 use Rattle.audit_slots.proofs.frame_leads.Goals as goal
 
 pub returns-then-not-known : goal.returns-then-not-known

@@ -1,8 +1,7 @@
-use Prim.Native.Nat.{◌-◌}
 use native.Mathlib.Omega.{arith}
 use Rattle.lists.specs.Laws.Every.{passed_not, passed_all}
 use Rattle.frames.specs.Frames.{frame_count_in}
-use Rattle.audit_slots.specs.Leads.{frame_leads, frames_lead}
+use Rattle.audit_slots.specs.Leads.{frames_lead}
 use Rattle.audit_slots.proofs.frames_lead.Goals as goal
 
 pub returns-then-not-frame_leads : goal.returns-then-not-frame_leads
@@ -12,4 +11,4 @@ returns-then-not-frame_leads c =
 
 pub returns : goal.returns
 unfolding frames_lead
-returns c =   passed_all _ (frame_count_in c.args.standing) c.loop-i.i c.loop-i.invariant.1 (omega arith)
+returns c = passed_all _ (frame_count_in c.args.standing) c.loop-i.i c.loop-i.invariant.1 (omega arith)

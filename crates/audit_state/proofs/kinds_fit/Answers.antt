@@ -1,5 +1,4 @@
 use mathlib.Core.Path.{◌≡◌, sym}
-use Prim.Native.Nat.{◌-◌}
 use native.Mathlib.Omega.{arith}
 use Rattle.lists.specs.Laws.Every.{passed_more, passed_not, passed_all}
 use Rattle.kinds.specs.Kinds.{kind_count_in}
@@ -23,8 +22,7 @@ returns-then-not-marks_fit c =
 pub loop-i-preserved : goal.loop-i-preserved
 unfolding kind_fits
 loop-i-preserved c =
-    let fits : within 1 16 c.byte.result ≡ c.within.result = sym c.within.ensures in
-    (
+    let fits : within 1 16 c.byte.result ≡ c.within.result = sym c.within.ensures in (
       c.loop-i.invariant.0,
       c.loop-i.invariant.1,
       passed_more (kind_fits c.args.declared c.args.sizes.now c.args.marks.now) _ c.loop-i.i c.loop-i.invariant.2 (omega arith)
@@ -33,4 +31,4 @@ loop-i-preserved c =
 
 pub returns : goal.returns
 unfolding kinds_fit
-returns c =  passed_all _ (kind_count_in c.args.declared) c.loop-i.i c.loop-i.invariant.2 (omega arith)
+returns c = passed_all _ (kind_count_in c.args.declared) c.loop-i.i c.loop-i.invariant.2 (omega arith)

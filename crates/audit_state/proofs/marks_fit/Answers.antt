@@ -1,4 +1,3 @@
-use Prim.Native.Nat.{◌-◌}
 use native.Mathlib.Omega.{arith}
 use borrow.Author.Tests.{lt-leb}
 use Rattle.lists.specs.Laws.Every.{passed_not, passed_all}
@@ -13,4 +12,4 @@ returns-then-mark_at-gt4 c =
 
 pub returns : goal.returns
 unfolding marks_fit
-returns c =   passed_all _ (size_in c.args.declared c.args.sizes.now c.args.n) c.loop-w.w c.loop-w.invariant.1 (omega arith)
+returns c = passed_all _ (size_in c.args.declared c.args.sizes.now c.args.n) c.loop-w.w c.loop-w.invariant.1 (omega arith)

@@ -1,5 +1,4 @@
 use mathlib.Core.Path.{◌≡◌, sym}
-use Prim.Native.Nat.{◌-◌}
 use native.Mathlib.Omega.{arith}
 use Rattle.lists.specs.Laws.Every.{passed_not, passed_all}
 use Rattle.frames.specs.Frames.{frame_count_in}
@@ -15,4 +14,4 @@ returns-then-not-within c =
 
 pub returns : goal.returns
 unfolding widths_fit
-returns c =   passed_all _ (frame_count_in c.args.standing) c.loop-i.i c.loop-i.invariant.1 (omega arith)
+returns c = passed_all _ (frame_count_in c.args.standing) c.loop-i.i c.loop-i.invariant.1 (omega arith)

@@ -1,8 +1,7 @@
-use Prim.Native.Nat.{◌-◌}
 use native.Mathlib.Omega.{arith}
 use Rattle.lists.specs.Laws.Every.{passed_not, passed_all}
 use Rattle.pages.specs.Pages.{page_count_in}
-use Rattle.audit_words.specs.Words.{page_holds, pages_hold}
+use Rattle.audit_words.specs.Words.{pages_hold}
 use Rattle.audit_words.proofs.pages_hold.Goals as goal
 
 pub returns-then-not-page_holds : goal.returns-then-not-page_holds

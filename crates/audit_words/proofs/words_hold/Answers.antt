@@ -1,7 +1,6 @@
-use Prim.Native.Nat.{◌-◌}
 use native.Mathlib.Omega.{arith}
 use Rattle.lists.specs.Laws.Every.{passed_not, passed_all}
-use Rattle.audit_words.specs.Words.{word_holds, words_hold}
+use Rattle.audit_words.specs.Words.{words_hold}
 use Rattle.audit_words.proofs.words_hold.Goals as goal
 
 pub returns-then-not-word_holds : goal.returns-then-not-word_holds
@@ -12,4 +11,4 @@ returns-then-not-word_holds c =
 
 pub returns : goal.returns
 unfolding words_hold
-returns c =  passed_all _ c.args.n c.loop-w.w c.loop-w.invariant (omega arith)
+returns c = passed_all _ c.args.n c.loop-w.w c.loop-w.invariant (omega arith)

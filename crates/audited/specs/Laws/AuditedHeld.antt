@@ -14,7 +14,7 @@ use Rattle.lists.specs.Laws.All.{all_map, all_in, all_change}
 use Rattle.lists.specs.Laws.Sums.{sum_map, sum_same}
 use Rattle.lists.specs.Laws.Finds.{true_every}
 use Rattle.lists.specs.Laws.UpTo.{each_every}
-use Rattle.model.specs.Model.{Model, object, marks}
+use Rattle.model.specs.Model.{Model, object}
 use Rattle.model.proofs.Laws.Slots.{object_valid}
 use Rattle.kinds.specs.Kinds.{kind_count, size_of, size_in}
 use Rattle.regions.specs.Regions.{name_of, name_in}

@@ -15,11 +15,11 @@ use Rattle.lists.specs.Laws.All.{all_in, all_change}
 use Rattle.lists.specs.Laws.Finds.{every_true}
 use Rattle.lists.specs.Laws.UpTo.{every_each, get_d_map_up_to, length_map_up_to}
 use Rattle.lists.specs.Laws.Kept.{map_all, all_places, find_map, all₂_each}
-use Rattle.model.specs.Model.{Region, no_object, no_region, marks, lives_in, home_in, parent_in, above, rule, allowed}
+use Rattle.model.specs.Model.{no_object, no_region, marks, lives_in, home_in, parent_in, above, rule, allowed}
 use Rattle.model.specs.Valid.{ValidObject, fine}
 use Rattle.model.proofs.Laws.Regions.{live_all}
 use Rattle.pages.specs.Pages.{owner_at, taken_at}
-use Rattle.outcomes.specs.Store.{Store, kinds, regions, pages}
+use Rattle.outcomes.specs.Store.{Store, pages}
 use Rattle.outcomes.specs.History.{begin, entries, listed_kinds, listed_regions, pointers_of, words_lead, leads, home_of, parent_of, above_of}
 use Rattle.outcomes.specs.History as history
 use Rattle.outcomes.specs.Sound.{Sound}

@@ -12,7 +12,6 @@ use borrow.Author.Tests.{ltb-true, eqb-true, eqb-false, eq-eqb, ne_eqb}
 use Rattle.lists.specs.Lists.{sum_of}
 use Rattle.lists.specs.Laws.Tests.{by_test, both, or_other}
 use Rattle.lists.specs.Laws.UpTo.{every_each, get_d_map_up_to, length_map_up_to}
-use Rattle.model.specs.Model.{region}
 use Rattle.regions.specs.Regions.{name_at, name_of, name_in, tag_of, entry_of, newest_at}
 use Rattle.pages.specs.Pages.{page_count, owner_at, taken_at}
 use Rattle.objects.specs.Objects.{headers_on}

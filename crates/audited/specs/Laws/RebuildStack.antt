@@ -17,7 +17,7 @@ use Rattle.lists.specs.Laws.Finds.{every_true}
 use Rattle.lists.specs.Laws.UpTo.{all_up_to, every_each, get_d_map_up_to, length_map_up_to}
 use Rattle.lists.specs.Laws.Kept.{all_places}
 use Rattle.lists.specs.Laws.Every.{every_map}
-use Rattle.model.specs.Model.{marks, lives_in, home_in}
+use Rattle.model.specs.Model.{lives_in, home_in}
 use Rattle.model.specs.Valid.{ValidKinds, ValidFrames, known as lead}
 use Rattle.frames.specs.Frames.{frame_count, width_at, slot_at}
 use Rattle.kinds.specs.Kinds.{kind_count, size_of, size_in}

@@ -13,7 +13,7 @@ use Rattle.outcomes.specs.Outcome.{MakeOutcome}
 use Rattle.promises.specs.Promises.{Total, AuditExact}
 use Rattle.promises.specs.Laws.Refused.{total, audit_exact}
 use Rattle.outcomes.specs.Runs.{calls, done, step}
-use Rattle.audited.specs.Rebuild.{places, rebuilt}
+use Rattle.audited.specs.Rebuild.{rebuilt}
 use Rattle.refinement.specs.Laws.Fresh.{make_pages}
 use Rattle.audited.specs.Laws.Audited.{audited}
 use Rattle.histories.specs.Laws.Tells.{Tells}

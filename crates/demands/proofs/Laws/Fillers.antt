@@ -23,10 +23,8 @@ use Rattle.regions.specs.Laws.Recount.{recount_beside, recount_share}
 use Rattle.regions.specs.Laws.Added.{name_new, share_new, share_old}
 use Rattle.regions.specs.Laws.Removed.{name_left}
 use Rattle.outcomes.specs.Store.{Store, regions}
-use Rattle.outcomes.specs.History.{entries}
 use Rattle.outcomes.specs.Shape.{Sized}
 use Rattle.outcomes.specs.Outcome.{Outcome, MakeOutcome, MakeBy, Accepted, Answered, bad_length, dead, query_checks, checks, refusal, fill_slot, write_word, recounted, pop_frame, pointed, allocated, deleted, blank}
-use Rattle.outcomes.specs.Runs.{step}
 use Rattle.promises.specs.Promises.{Refusals}
 use Rattle.promises.specs.Laws.Refused.{refusals}
 use Rattle.demands.specs.Later.{ActsFor, drops, hands_back, sets, deletes, deletes_all, FillerNext, OwnShare, added_singly, AnyOrder}

@@ -12,7 +12,7 @@ use Rattle.lists.specs.Lists.{bit, pick, every, keep, sum_of, All, joined, times
 use Rattle.lists.specs.Laws.Tests.{by_test, by_same, pick_same, eqb_sym}
 use Rattle.lists.specs.Laws.Sums.{sum_append, sum_nothing, sum_map, sum_joined, sum_keep}
 use Rattle.lists.specs.Laws.Finds.{any_count, times_keep, keep_append}
-use Rattle.model.specs.Model.{Model, region, lives_in}
+use Rattle.model.specs.Model.{Model, lives_in}
 use Rattle.regions.specs.declared.Regions.{Regions}
 use Rattle.regions.specs.Regions.{name_at, entry_of, tag_of, cleared_at}
 use Rattle.regions.specs.Laws.Removed.{cleared_at_lem}

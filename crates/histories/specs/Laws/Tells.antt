@@ -1,6 +1,6 @@
 -- A history that tells of a model: the same kinds, frames, live regions and live objects, the regions and objects in any order. What it reads is then what the model reads.
 -- Assumes nothing.
-use Rattle.std.specs.Prelude.{◌≡◌, refl, Bool, true, false, ◌||◌, List, map, ℕ, zero, suc, ◌+◌, ◌-◌, ◌≤◌, ltb, length}
+use Rattle.std.specs.Prelude.{◌≡◌, refl, Bool, true, ◌||◌, List, map, ℕ, zero, suc, ◌+◌, ◌-◌, ◌≤◌, ltb, length}
 use Rattle.std.proofs.Math.Path.{sym, ap, fun_ext}
 use Rattle.std.proofs.Common.{◌∙◌, arith, eq-eqb, ne_eqb}
 use Rattle.std.proofs.Math.Bool.{not}

@@ -24,7 +24,7 @@ use Rattle.model.proofs.Laws.Counts.{outside_stored}
 use Rattle.kinds.specs.Kinds.{size_of, mark_at as kind_mark, wrong_marks, all_data as only_data}
 use Rattle.regions.specs.Regions.{count_at, name_of, entry_of, tag_of, newest_at, above_in, allows_in}
 use Rattle.pages.specs.Pages.{taken_at, owner_of}
-use Rattle.outcomes.specs.Store.{Store, frames, kinds, regions, pages, slot as store_slot, led_into, breaks, roomy, size as store_size, breaks_in, roomy_in}
+use Rattle.outcomes.specs.Store.{Store, regions, pages, slot as store_slot, led_into, breaks, roomy, size as store_size, breaks_in, roomy_in}
 use Rattle.outcomes.specs.Outcome.{checks as store_checks, query_checks as store_query_checks, refusal as store_refusal, bad_length, no_frame as store_no_frame, one_frame as store_one_frame, lacks as store_lacks, lacks_beneath, dead as store_dead, full, names_out, no_word as store_no_word, is_data, all_data}
 use Rattle.refinement.specs.Represents.{Represents, RoomAgrees, spot}
 use Rattle.refinement.specs.Laws.Tags.{live_is, live_count_lem, above_is, subregions_are}
