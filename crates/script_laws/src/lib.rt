@@ -1,1 +1,2 @@
 // What holds of every script; theorems only, in specs/.
+#![tactic(auto)]
