@@ -2,13 +2,13 @@ use Prim.Native.Nat.{◌+◌, ◌-◌, ◌≤◌}
 use mathlib.Core.Path.{◌≡◌, refl, sym, subst, ◌∙◌}
 use native.Mathlib.Omega.{arith}
 use lib.ListN.{length, get_or}
-use borrow.Author.Tests.{leb-true, leb-false}
+use borrow.Author.Tests.{leb-true}
 use Rattle.script.specs.Laws.Lines.{few_heard}
 use Rattle.state.specs.declared.State.{State}
 use Rattle.lent.specs.Lent.{state_of}
 use Rattle.feed.specs.Laws.Cuts.{scripted_none}
 use Rattle.feed.specs.Laws.Steps.{piece_within}
-use Rattle.feed.proofs.Laws.{onward, used_fits, begun_more, turned}
+use Rattle.feed.proofs.Laws.{used_fits, begun_more, turned}
 use Rattle.feed.proofs.feed.Goals as goal
 
 pub loop-at-init : goal.loop-at-init

@@ -6,7 +6,7 @@ use Rattle.lists.specs.Lists.{pick}
 use Rattle.outcomes.specs.Store.{Store}
 use Rattle.tally.specs.declared.Tally.{Tally}
 use Rattle.tally.specs.Answers.{kept}
-use Rattle.feed.specs.Scripted.{ended, left, Turn, Turns, Talk, Scripted}
+use Rattle.feed.specs.Scripted.{ended, left, Turns, Talk, Scripted}
 
 pub ended_cut : (k x y : List ℕ) → ended k (x ++ y) ≡ ended k x ++ ended (left k x) y
 unfolding ended left
