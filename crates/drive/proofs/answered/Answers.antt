@@ -1,4 +1,4 @@
-use Rattle.std.proofs.Common.{◌≡◌, ◌-◌, ◌≤◌, ◌∙◌, [], length, take, drop, rules, arith, length-take, length-drop}
+use Rattle.std.proofs.Common.{◌≡◌, ◌-◌, ◌∙◌, [], length, take, drop, rules, arith, length-take, length-drop}
 use Rattle.feed.specs.Laws.Cuts.{scripted_none}
 use Rattle.drive.proofs.Laws.{fed_more}
 use Rattle.drive.proofs.answered.Goals as goal
