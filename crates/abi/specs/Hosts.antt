@@ -1,6 +1,6 @@
 -- What a host has that makes calls by their numbers, one after another, on memory that nothing else writes in between. Each is a type; the theorems are in Laws: one-state, all_sized, host_runs.
 -- Assumes nothing.
-use Rattle.std.specs.Prelude.{◌≡◌, Bool, true, false, List, [], ◌∷◌, ℕ}
+use Rattle.std.specs.Prelude.{◌≡◌, List, [], ◌∷◌, ℕ}
 use Rattle.lists.specs.Lists.{pick, joined}
 use Rattle.model.specs.Model.{Answer, Call, refused_by}
 use Rattle.state.specs.declared.State.{State}

@@ -1,6 +1,6 @@
 -- Lent memory written out, computed: what must-fail edits would break.
 -- Assumes nothing.
-use Rattle.std.specs.Prelude.{◌≡◌, refl, Bool, true, ◌&&◌, List, [], ◌∷◌, ◌++◌, ℕ, ◌*◌, eqb, length, get_or, replicate}
+use Rattle.std.specs.Prelude.{◌≡◌, refl, true, ◌&&◌, [], ◌∷◌, ◌++◌, ◌*◌, eqb, length, get_or, replicate}
 use Rattle.lists.specs.Lists.{sum_of, equal}
 use Rattle.model.specs.Model.{view}
 use Rattle.frames.specs.Frames.{pushed, width_at, top_frame, slot_at}

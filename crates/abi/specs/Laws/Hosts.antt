@@ -3,16 +3,14 @@
 use Rattle.std.specs.Prelude.{◌≡◌, refl, Bool, true, false, List, [], ◌∷◌, ℕ, get_or}
 use Rattle.std.proofs.Common.{sym, ap, subst, ◌∙◌}
 use Rattle.std.proofs.Math.Path.{subst⁻¹}
-use Rattle.lists.specs.Lists.{pick}
 use Rattle.model.specs.Model.{Answer, Call, refused_by}
 use Rattle.state.specs.declared.State.{State}
 use Rattle.state.specs.declared.Reply.{Reply}
 use Rattle.outcomes.specs.Store.{Store}
 use Rattle.outcomes.specs.Outcome.{store, answer_of}
 use Rattle.outcomes.specs.Runs.{Event, Run, done, step, calls, answers}
-use Rattle.outcomes.specs.Shape.{Sized}
 use Rattle.dispatch.specs.Dispatch.{is_call, decoded, DispatchedBy, Dispatched}
-use Rattle.abi.specs.Memory.{arrays_of, OfSizes, sizes, HoldsState, Called, reply_of}
+use Rattle.abi.specs.Memory.{OfSizes, sizes, HoldsState, reply_of}
 use Rattle.abi.specs.Hosts.{Request, Driven, ended, asked, requested, numbers_of, replied, OneState, AllSized, HostRuns}
 
 -- the state that arrays are

@@ -1,22 +1,19 @@
 -- What is made directly is as if made by its number.
 -- Assumes nothing.
-use Rattle.std.specs.Prelude.{◌≡◌, refl, ◌⊎◌, Bool, true, false, List, [], ◌∷◌, ℕ}
-use Rattle.std.proofs.Common.{sym, ap, subst, inl, inr, arith}
+use Rattle.std.specs.Prelude.{refl, Bool, true, false, List, [], ℕ}
+use Rattle.std.proofs.Common.{ap, subst, inl, inr}
 use Rattle.std.proofs.Math.Path.{subst⁻¹}
 use Rattle.lists.specs.Lists.{All}
-use Rattle.model.specs.Model.{Call, clear, put}
 use Rattle.state.specs.declared.State.{State}
-use Rattle.state.specs.declared.Reply.{Reply}
 use Rattle.outcomes.specs.Outcome.{Outcome, store, answer_of}
 use Rattle.outcomes.specs.Shape.{Bits32, Shaped}
 use Rattle.outcomes.specs.Store.{Store}
-use Rattle.lent.specs.Lent.{InPlace}
 use Rattle.promises.specs.Promises.{Sent, KeepsShape}
 use Rattle.promises.specs.Laws.Keeps.{keeps_shape}
 use Rattle.dispatch.specs.Dispatch.{is_call, DispatchedBy, Dispatched}
 use Rattle.abi.specs.Memory.{arrays_of, OfSizes, sizes, HoldsState}
 use Rattle.abi.specs.Hosts.{Request, Driven, ended, asked}
-use Rattle.direct.specs.Direct.{call_of, ByNumber, Directly, DirectCalled, Mixed, nothing, more, MixedDriven}
+use Rattle.direct.specs.Direct.{call_of, ByNumber, DirectCalled, Mixed, nothing, more, MixedDriven}
 
 -- memory of the right sizes is a state of the language's types, and the other way round
 shaped : (s : State) (heap : List ℕ) → Bits32 heap → OfSizes sizes (arrays_of s) → Shaped (store s heap)
