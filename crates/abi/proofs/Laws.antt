@@ -9,8 +9,10 @@ use lib.Seq.{sets, drop-cons}
 use native.Mathlib.Numerals.{add-one}
 use Rattle.state.specs.declared.State.{State}
 use Rattle.outcomes.specs.Outcome.{store}
-use Rattle.outcomes.specs.Shape.{Shaped}
+use Rattle.outcomes.specs.Shape.{Sized, Shaped}
 use Rattle.abi.specs.Memory.{arrays_of, sizes, OfSizes, HoldsState}
+use Rattle.abi.specs.Hosts.{AllSized}
+use Rattle.abi.specs.Laws.Hosts.{all_sized}
 
 -- a list of five, element by element
 pub five : (l : List ℕ) → length l ≡ 5 → l ≡ get_or l 0 0 ∷ get_or l 1 0 ∷ get_or l 2 0 ∷ get_or l 3 0 ∷ get_or l 4 0 ∷ []
@@ -46,3 +48,8 @@ write_step out₀ out out' l i v o e h n w = rw (o, add-one i) (length-set out i
 
 pub write_done : (out l : List ℕ) (i : ℕ) → length l ≤ i → sets out i (drop i l) ≡ out
 write_done out l i h = rw (drop_of_length-le l {i = i} h)
+
+-- arrays as long as the layout says are a state's whose arrays have their lengths
+pub sized : (s : State) (heap : List ℕ) → OfSizes sizes (arrays_of s) → Sized (store s heap)
+unfolding AllSized HoldsState
+sized s heap h = all_sized s (arrays_of s) heap (refl, h)
