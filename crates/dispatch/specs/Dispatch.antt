@@ -6,8 +6,8 @@ use Rattle.state.specs.declared.Reply.{Reply}
 use Rattle.outcomes.specs.Store.{Store}
 use Rattle.outcomes.specs.Outcome.{Outcome, answer_of}
 
--- the calls from number 2 on, in order, with their arguments from the left: four numbers, and a list, declare's marks or deleteAll's names. A filler is the number after document 01's arguments, and the
--- first beside deleteAll's list (document 02, card 5)
+-- the calls from number 2 on, in order, with their arguments from the left: four numbers, and a list, declare's marks or delete_all's names. A filler is the number after document 01's arguments, and the
+-- first beside delete_all's list (document 02, card 5)
 abbrev pub numbered : ℕ → ℕ → ℕ → ℕ → List ℕ → List Call
 numbered a b c d list =
     declare list ∷ new_region ∷ subregion a ∷ push a ∷ drop_frame a ∷ hand_back a b c ∷ allocate a b c ∷ first a b ∷ copy a b ∷ fetch a b ∷ clear a ∷ load a b c ∷ set_pointer a b c d ∷ put a b c ∷ get a b ∷ view a ∷ same a b ∷ about a ∷ report a ∷ totals ∷ audit ∷ delete a b ∷ delete_all list a ∷ ask (locate a) ∷ []
