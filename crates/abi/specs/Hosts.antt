@@ -1,4 +1,4 @@
--- What a host has that makes calls by their numbers, one after another, on memory that nothing else writes in between. Each is a type; the theorems are in Laws: one-state, all_sized, host_runs.
+-- What a host has that makes calls by their numbers, one after another, on memory that nothing else writes in between. Each is a type; the theorems are in Laws: one_state, all_sized, host_runs.
 -- Assumes nothing.
 use Rattle.std.specs.Prelude.{◌≡◌, List, [], ◌∷◌, ℕ}
 use Rattle.lists.specs.Lists.{pick, joined}
