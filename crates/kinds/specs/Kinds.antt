@@ -1,5 +1,5 @@
 -- The kinds as the state keeps them (document 01, The store). Every reading is total: a kind that was not declared has no words, and a mark past the end of the array reads 0.
--- A name that ends in `In` is a reading by the numbers and lists alone that it takes, for code that is lent these; the reading of the whole is said by it.
+-- A name that ends in `_in` is a reading by the numbers and lists alone that it takes, for code that is lent these; the reading of the whole is said by it.
 -- Assumes nothing.
 use Rattle.std.specs.Prelude.{Bool, ◌&&◌, ◌||◌, List, ℕ, ◌+◌, ◌-◌, ◌*◌, min, eqb, ltb, leb, length, get_or, set}
 use Rattle.std.proofs.lemmas.List.Edits.{sets}
