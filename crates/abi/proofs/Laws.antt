@@ -1,12 +1,11 @@
 -- Ways to what the functions promise of the memory lent.
 -- Assumes nothing.
 use mathlib.Core.Path.{◌≡◌, refl, sym, ◌∙◌, ap, subst⁻¹}
-use mathlib.Core.List.{List, [], ◌∷◌}
-use Prim.Native.Nat.{ℕ, ◌+◌, ◌≤◌, ◌<◌}
+use mathlib.Core.List.{List, [], ◌∷◌, ◌++◌}
+use Prim.Native.Nat.{ℕ, zero, suc, min}
 use native.Mathlib.Omega.{arith}
-use lib.ListN.{length, get_or, set, drop, length-set, drop_of_length-le}
-use lib.Seq.{sets, drop-cons}
-use native.Mathlib.Numerals.{add-one}
+use lib.ListN.{length, get_or, set, take, drop}
+use lib.Seq.{sets}
 use Rattle.state.specs.declared.State.{State}
 use Rattle.outcomes.specs.Outcome.{store}
 use Rattle.outcomes.specs.Shape.{Sized, Shaped}
@@ -41,13 +40,23 @@ pub holds : (s : State) (memory : List (List ℕ)) → memory ≡ arrays_of s �
 unfolding HoldsState
 holds s memory e h = (e, subst⁻¹ (λ m. OfSizes sizes m) e (of_sizes s h))
 
--- numbers still to be written: the one at i, and those after it
-pub write_step : (out₀ out out' l : List ℕ) (i v : ℕ) → out' ≡ set out i v → v ≡ get_or l i 0 → i < length l → length out ≡ length out₀ → sets out i (drop i l) ≡ sets out₀ 0 l
-    → (length out' ≡ length out₀) × (sets out' (i + 1) (drop (i + 1) l) ≡ sets out₀ 0 l)
-write_step out₀ out out' l i v o e h n w = rw (o, add-one i) (length-set out i v ∙ n, rw e (sym (ap (sets out i) (drop-cons l i 0 h)) ∙ w))
+-- what is written after the first number leaves that as it is
+sets_rest : (l out : List ℕ) (i x : ℕ) → sets (x ∷ out) (suc i) l ≡ x ∷ sets out i l
+sets_rest [] out i x = refl
+sets_rest (v ∷ l) out i x = sets_rest l (set out i v) (suc i) x
 
-pub write_done : (out l : List ℕ) (i : ℕ) → length l ≤ i → sets out i (drop i l) ≡ out
-write_done out l i h = rw (drop_of_length-le l {i = i} h)
+sets_none : (l : List ℕ) (i : ℕ) → sets [] i l ≡ []
+sets_none [] i = refl
+sets_none (v ∷ l) i = sets_none l (suc i)
+
+-- numbers written as far as there is room
+pub sets_front : (l out : List ℕ) (n : ℕ) → n ≡ min (length l) (length out) → take n l ++ drop n out ≡ sets out 0 l
+sets_front l [] zero e = sym (sets_none l 0)
+sets_front l [] (suc n) e = absurd (omega arith)
+sets_front [] (x ∷ out) zero e = refl
+sets_front [] (x ∷ out) (suc n) e = absurd (omega arith)
+sets_front (v ∷ l) (x ∷ out) zero e = absurd (omega arith)
+sets_front (v ∷ l) (x ∷ out) (suc n) e = ap (λ t. v ∷ t) (sets_front l out n (omega arith)) ∙ sym (sets_rest l out 0 v)
 
 -- arrays as long as the layout says are a state's whose arrays have their lengths
 pub sized : (s : State) (heap : List ℕ) → OfSizes sizes (arrays_of s) → Sized (store s heap)

@@ -2,9 +2,64 @@
 // Pointers are aligned and not null, also where a length is 0, lengths are true, and no two buffers overlap: that the host answers for. Whatever the memory holds, the calls are safe, end and have their outcomes; what the outcomes say of memory that the audit rejects is more than document 01 fixes.
 #![tactic(auto)]
 
-ghost use Rattle.std.specs.Prelude.{◌≡◌, [], ◌∷◌, length};
+ghost use Rattle.std.specs.Prelude.{◌≡◌, [], ◌∷◌, length, get_or};
 ghost use Rattle.std.proofs.lemmas.List.Edits.{sets};
-ghost use Rattle.abi.specs.Memory.{Made, Called, Viewed, layout};
+ghost use Rattle.lent.specs.Lent.{state_of};
+ghost use Rattle.abi.specs.Memory.{HoldsState, Made, Called, Viewed, layout};
+
+use frames::Frames;
+use kinds::Kinds;
+use pages::Pages;
+use regions::Regions;
+use state::State;
+
+// What the types say of memory that is lent: it holds a state. It does nothing: its contract is what it is for.
+fn holds(
+    numbers: [u32; 5],
+    widths: [u8; 32],
+    slots: [u32; 256],
+    sizes: [u8; 16],
+    marks: [u8; 256],
+    names: [u32; 64],
+    parents: [u8; 64],
+    levels: [u8; 64],
+    shares: [u32; 256],
+    newest: [u16; 64],
+    oldest: [u32; 64],
+    owners: [u8; 256],
+    taken: [u8; 256],
+)
+    ensures { HoldsState (state_of (get_or numbers 0 0) (get_or numbers 1 0) (get_or numbers 2 0) (get_or numbers 3 0) (get_or numbers 4 0) widths slots sizes marks names parents levels shares newest oldest owners taken) (numbers ∷ widths ∷ slots ∷ sizes ∷ marks ∷ names ∷ parents ∷ levels ∷ shares ∷ newest ∷ oldest ∷ owners ∷ taken ∷ []) }
+{
+    let [standing, counted, declared, given, made] = numbers;
+    shapes::arrays_shaped(State {
+        frames: Frames {
+            standing,
+            counted,
+            widths,
+            slots,
+        },
+        kinds: Kinds {
+            declared,
+            sizes,
+            marks,
+        },
+        regions: Regions {
+            given,
+            names,
+            parents,
+            levels,
+            shares,
+            newest,
+            oldest,
+        },
+        pages: Pages {
+            made,
+            owners,
+            taken,
+        },
+    });
+}
 
 // Make: what the arrays held does not matter. The reply is the refusal's number, 0 where the call was accepted, and four values.
 pub fn region_store_make(
@@ -26,11 +81,7 @@ pub fn region_store_make(
 )
     ensures { Made heap.old (numbers.new ∷ widths.new ∷ slots.new ∷ sizes.new ∷ marks.new ∷ names.new ∷ parents.new ∷ levels.new ∷ shares.new ∷ newest.new ∷ oldest.new ∷ owners.new ∷ taken.new ∷ []) heap.new reply.new }
 {
-    let mut standing = 0;
-    let mut counted = 0;
-    let mut declared = 0;
-    let mut given = 0;
-    let mut made = 0;
+    let [mut standing, mut counted, mut declared, mut given, mut made] = [0; 5];
     let r = store::make_in(
         &mut standing,
         &mut counted,
@@ -51,18 +102,13 @@ pub fn region_store_make(
         taken,
         heap,
     );
-    shapes::arrays_shaped(
-        standing, counted, declared, given, made, *widths, *slots, *sizes, *marks, *names,
-        *parents, *levels, *shares, *newest, *oldest, *owners, *taken,
-    );
     *numbers = [standing, counted, declared, given, made];
-    *reply = [r.refusal, r.a, r.b, r.c, r.d];
+    holds(
+        *numbers, *widths, *slots, *sizes, *marks, *names, *parents, *levels, *shares, *newest,
+        *oldest, *owners, *taken,
+    );
+    *reply = r.into();
 }
-
-// What the type says of the numbers. It does nothing: its contract is what it is for.
-fn five(numbers: [u32; 5])
-    ensures { length numbers ≡ 5 }
-{}
 
 // Any call but make, by its number, as `store::call_in` takes it.
 pub fn region_store_call(
@@ -90,16 +136,10 @@ pub fn region_store_call(
 )
     ensures { Called number a b c d list.now (numbers.old ∷ widths.old ∷ slots.old ∷ sizes.old ∷ marks.old ∷ names.old ∷ parents.old ∷ levels.old ∷ shares.old ∷ newest.old ∷ oldest.old ∷ owners.old ∷ taken.old ∷ []) heap.old (numbers.new ∷ widths.new ∷ slots.new ∷ sizes.new ∷ marks.new ∷ names.new ∷ parents.new ∷ levels.new ∷ shares.new ∷ newest.new ∷ oldest.new ∷ owners.new ∷ taken.new ∷ []) heap.new reply.new }
 {
-    let n = *numbers;
-    five(n);
-    let mut standing = n[0];
-    let mut counted = n[1];
-    let mut declared = n[2];
-    let mut given = n[3];
-    let mut made = n[4];
-    shapes::arrays_shaped(
-        standing, counted, declared, given, made, *widths, *slots, *sizes, *marks, *names,
-        *parents, *levels, *shares, *newest, *oldest, *owners, *taken,
+    let [mut standing, mut counted, mut declared, mut given, mut made] = *numbers;
+    holds(
+        *numbers, *widths, *slots, *sizes, *marks, *names, *parents, *levels, *shares, *newest,
+        *oldest, *owners, *taken,
     );
     let r = store::call_in(
         &mut standing,
@@ -127,13 +167,13 @@ pub fn region_store_call(
         d,
         list,
     );
-    shapes::arrays_shaped(
-        standing, counted, declared, given, made, *widths, *slots, *sizes, *marks, *names,
-        *parents, *levels, *shares, *newest, *oldest, *owners, *taken,
-    );
     let m = [standing, counted, declared, given, made];
+    holds(
+        m, *widths, *slots, *sizes, *marks, *names, *parents, *levels, *shares, *newest, *oldest,
+        *owners, *taken,
+    );
     *numbers = m;
-    *reply = [r.refusal, r.a, r.b, r.c, r.d];
+    *reply = r.into();
 }
 
 // View: the refusal's number, and the part as its place and its length in the heap, both 0 where there is none.
@@ -157,13 +197,14 @@ pub fn region_store_view(
 )
     ensures { Viewed slot (numbers.now ∷ widths.now ∷ slots.now ∷ sizes.now ∷ marks.now ∷ names.now ∷ parents.now ∷ levels.now ∷ shares.now ∷ newest.now ∷ oldest.now ∷ owners.now ∷ taken.now ∷ []) heap.now out.new }
 {
-    let n = *numbers;
-    five(n);
-    shapes::arrays_shaped(
-        n[0], n[1], n[2], n[3], n[4], *widths, *slots, *sizes, *marks, *names, *parents, *levels,
-        *shares, *newest, *oldest, *owners, *taken,
+    let [standing, _, declared, _, made] = *numbers;
+    holds(
+        *numbers, *widths, *slots, *sizes, *marks, *names, *parents, *levels, *shares, *newest,
+        *oldest, *owners, *taken,
     );
-    let v = store::view_in(n[4], n[0], n[2], widths, slots, sizes, marks, heap, slot);
+    let v = store::view_in(
+        made, standing, declared, widths, slots, sizes, marks, heap, slot,
+    );
     *out = [v.refusal, v.place, v.count];
 }
 
@@ -187,28 +228,24 @@ pub fn region_store_audit<'a>(
 )
     ensures { Called 22 0 0 0 0 [] (numbers.now ∷ widths.now ∷ slots.now ∷ sizes.now ∷ marks.now ∷ names.now ∷ parents.now ∷ levels.now ∷ shares.now ∷ newest.now ∷ oldest.now ∷ owners.now ∷ taken.now ∷ []) heap.now (numbers.now ∷ widths.now ∷ slots.now ∷ sizes.now ∷ marks.now ∷ names.now ∷ parents.now ∷ levels.now ∷ shares.now ∷ newest.now ∷ oldest.now ∷ owners.now ∷ taken.now ∷ []) heap.now reply.new }
 {
-    let n = *numbers;
-    five(n);
-    shapes::arrays_shaped(
-        n[0], n[1], n[2], n[3], n[4], *widths, *slots, *sizes, *marks, *names, *parents, *levels,
-        *shares, *newest, *oldest, *owners, *taken,
+    let [standing, counted, declared, given, made] = *numbers;
+    holds(
+        *numbers, *widths, *slots, *sizes, *marks, *names, *parents, *levels, *shares, *newest,
+        *oldest, *owners, *taken,
     );
     let r = store::audit_in(
-        n[4], n[0], n[1], n[2], n[3], widths, slots, sizes, marks, names, parents, levels, shares,
-        newest, oldest, owners, taken, heap,
+        made, standing, counted, declared, given, widths, slots, sizes, marks, names, parents,
+        levels, shares, newest, oldest, owners, taken, heap,
     );
-    *reply = [r.refusal, r.a, r.b, r.c, r.d];
+    *reply = r.into();
 }
 
 // Numbers written from the start on, as far as there is room.
 fn write(out: &mut [u32], l: &[u32])
     ensures { out.new ≡ sets out.old 0 l.now }
 {
-    let mut i: usize = 0;
-    while i < l.len() {
-        cells::store(out, i, l[i]);
-        i += 1;
-    }
+    let n = l.len().min(out.len());
+    out[..n].copy_from_slice(&l[..n]);
 }
 
 // The layout: its version, then for each array the bytes of an element and how many elements there are; written as far as there is room. Gives how many numbers a layout has, whether there was room for them or not.
@@ -220,5 +257,5 @@ pub fn region_store_layout(out: &mut [u32]) -> usize
         256, 1, 256,
     ];
     write(out, &l);
-    27
+    l.len()
 }

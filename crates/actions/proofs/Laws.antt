@@ -3,7 +3,7 @@
 use mathlib.Core.Path.{◌≡◌, refl, sym, ap, ◌∙◌}
 use mathlib.Core.Bool.{Bool, true, false}
 use mathlib.Core.List.{List, [], ◌∷◌, ◌++◌, append-nil}
-use Prim.Native.Nat.{ℕ, ◌+◌, ◌*◌, ◌≤◌, min}
+use Prim.Native.Nat.{ℕ, ◌+◌, ◌*◌, ◌<◌, ◌≤◌, min}
 use native.Mathlib.Omega.{arith}
 use lib.Dec.{eqb}
 use lib.ListN.{length, get_or, take, drop, length-take, length-drop, length-append}
@@ -18,7 +18,8 @@ use Rattle.outcomes.specs.Outcome.{Outcome, MakeOutcome, answer_of, store, refus
 use Rattle.dispatch.specs.Dispatch.{is_call, decoded, DispatchedBy, Dispatched}
 use Rattle.script.specs.declared.Line.{Line}
 use Rattle.script.specs.Script.{fillers}
-use Rattle.numbers.specs.Numbers.{filler_place, words_after}
+use Rattle.std.specs.Prelude.{Option, None, Some}
+use Rattle.numbers.specs.Numbers.{place_number, is_place, filler_place, words_after}
 use Rattle.lists.specs.Laws.Parts.{front_same}
 use Rattle.actions.specs.Acts.{line_call, printed, Replied, CalledBy, Called, Acts}
 
@@ -32,6 +33,11 @@ view_replied S s g p n e within o =
 pub view_called : (l : Line) (S : Store) (r : Reply) (T : Store) → l.call ≡ 17 → Replied 17 (view (get_or l.args 0 0)) S r T → Called l S r T
 unfolding Called decoded filler_place fillers
 view_called l S r T e q = rw e q
+
+-- the filler's place, none among them, for the four numbers
+pub at_place : (k : ℕ) (p : Option ℕ) (f a : ℕ) → k < 4 → pick (is_place k p) f a ≡ pick (eqb k (place_number p)) f a
+at_place k None f a h = rw (ne_eqb k 4 (λ e. absurd (omega arith)))
+at_place k (Some p) f a h = refl
 
 -- p, a to d and vs are what functions gave: where the filler goes, the four numbers, and the list
 pub called_by : (l : Line) (S : Store) (r : Reply) (T : Store) (p a b c d : ℕ) (vs : List ℕ) → let number : ℕ → ℕ = λ k. pick (eqb k p) l.filler (get_or l.args k 0) in

@@ -9,109 +9,70 @@ ghost use Rattle.pages.specs.Pages.{page_count_in};
 ghost use Rattle.outcomes.specs.Store.{targets_in};
 ghost use Rattle.audit_counts.specs.Counts.{word_tags, is_zero, all_zero, counts_fit};
 
+use frames::FramesIn;
+use kinds::KindsIn;
+use pages::PagesIn;
+use regions::{RegionsIn, Way};
+
 // The shares without the slots of the lowest n frames.
-fn leave_frames<'a>(
-    widths: &'a [u8],
-    slots: &'a [u32],
-    owners: &'a [u8],
-    shares: &mut [u32],
-    n: u32,
-)
-    ensures { shares.new ≡ leavings 0 shares.old (joined (targets_in widths.now slots.now owners.now) (up_to n)) }
+#[tactic(auto, using(crate::proofs::Leavings::leavings_next), unfolding(regions::specs::Laws::Steps::steps))]
+fn leave_frames(frames: &FramesIn, pages: &PagesIn, shares: &mut [u32], n: u32)
+    ensures { shares.new ≡ leavings 0 shares.old (joined (targets_in frames.now.widths.now frames.now.slots.now pages.now.owners.now) (up_to n)) }
 {
-    let mut i: u32 = 0;
-    while i < n {
-        checks::leave_frame(widths, slots, owners, shares, 0, i);
-        i += 1;
+    for i in 0..n {
+        checks::step_slots(frames, pages.owners, shares, Way::Out, 0, i);
     }
 }
 
 // The shares without the words marked 1 of page j.
-fn leave_one<'a>(
-    declared: u32,
-    sizes: &'a [u8],
-    marks: &'a [u8],
-    heap: &[u32],
-    owners: &'a [u8],
-    taken: &'a [u8],
-    shares: &mut [u32],
-    j: u32,
-)
-    ensures { shares.new ≡ leavings 0 shares.old (word_tags (kinds_with declared sizes.now marks.now) heap.now owners.now taken.now j) }
+fn leave_one(kinds: &KindsIn, heap: &[u32], pages: &PagesIn, shares: &mut [u32], j: u32)
+    ensures { shares.new ≡ leavings 0 shares.old (word_tags (kinds_with kinds.now.declared kinds.now.sizes.now kinds.now.marks.now) heap.now pages.now.owners.now pages.now.taken.now j) }
 {
-    let t = pages::owner_at(owners, j);
+    let t = pages.owner_at(j);
     if t == 0 {
         return;
     }
-    let n = pages::taken_at(taken, j);
-    objects::leave_page(declared, sizes, marks, heap, owners, j, n, shares, 0, t);
+    let n = pages.taken_at(j);
+    objects::leave_objects(kinds, heap, pages.owners, j, n, shares, 0, t);
 }
 
 // The shares without those of all pages.
-fn leave_pages<'a>(
-    declared: u32,
-    sizes: &'a [u8],
-    marks: &'a [u8],
-    heap: &[u32],
-    made: u32,
-    owners: &'a [u8],
-    taken: &'a [u8],
-    shares: &mut [u32],
-)
-    ensures { shares.new ≡ leavings 0 shares.old (joined (word_tags (kinds_with declared sizes.now marks.now) heap.now owners.now taken.now) (up_to (page_count_in made))) }
+#[tactic(auto, using(crate::proofs::Leavings::leavings_next), unfolding(regions::specs::Laws::Steps::steps))]
+fn leave_pages(kinds: &KindsIn, heap: &[u32], pages: &PagesIn, shares: &mut [u32])
+    ensures { shares.new ≡ leavings 0 shares.old (joined (word_tags (kinds_with kinds.now.declared kinds.now.sizes.now kinds.now.marks.now) heap.now pages.now.owners.now pages.now.taken.now) (up_to (page_count_in pages.now.made))) }
 {
-    let n = pages::page_count(made);
-    let mut j: u32 = 0;
-    while j < n {
-        leave_one(declared, sizes, marks, heap, owners, taken, shares, j);
-        j += 1;
+    for j in 0..pages.page_count() {
+        leave_one(kinds, heap, pages, shares, j);
     }
 }
 
 // Whether entry i is not in use or has the count 0.
-fn is_zero(names: &[u32], shares: &[u32], i: u32) -> bool
-    ensures { result ≡ is_zero names.now shares.now i }
+#[tactic(auto, unfolding(crate::specs::Counts::is_zero))]
+fn is_zero(regions: &RegionsIn, shares: &[u32], i: u32) -> bool
+    ensures { result ≡ is_zero regions.now.names.now shares.now i }
 {
-    if regions::name_at(names, i) == 0 {
-        return true;
-    }
-    if regions::count_at(shares, i) != 0 {
-        return false;
-    }
-    true
+    regions.name_at(i) == 0 || regions::count_at(shares, i) == 0
 }
 
-fn all_zero(names: &[u32], shares: &[u32]) -> bool
-    ensures { result ≡ all_zero names.now shares.now }
+fn all_zero(regions: &RegionsIn, shares: &[u32]) -> bool
+    ensures { result ≡ all_zero regions.now.names.now shares.now }
 {
-    let mut i: u32 = 0;
-    while i < 64 {
-        if !is_zero(names, shares, i) {
-            return false;
-        }
-        i += 1;
-    }
-    true
+    (0..64).all(|i| is_zero(regions, shares, i))
 }
 
 // Whether nothing stays in the counts once all that has to be there has left them.
-pub fn counts_fit<'a>(
-    declared: u32,
-    sizes: &'a [u8],
-    marks: &'a [u8],
+pub fn counts_fit(
+    kinds: &KindsIn,
     heap: &[u32],
-    made: u32,
-    owners: &'a [u8],
-    taken: &'a [u8],
+    pages: &PagesIn,
+    frames: &FramesIn,
     counted: u32,
-    widths: &'a [u8],
-    slots: &'a [u32],
-    names: &'a [u32],
+    regions: &RegionsIn,
     shares: &mut [u32],
 ) -> bool
-    ensures { result ≡ counts_fit names.now shares.old (kinds_with declared sizes.now marks.now) heap.now made owners.now taken.now counted widths.now slots.now }
+    ensures { result ≡ counts_fit regions.now.names.now shares.old (kinds_with kinds.now.declared kinds.now.sizes.now kinds.now.marks.now) heap.now pages.now.made pages.now.owners.now pages.now.taken.now counted frames.now.widths.now frames.now.slots.now }
 {
-    leave_pages(declared, sizes, marks, heap, made, owners, taken, shares);
-    leave_frames(widths, slots, owners, shares, counted);
-    all_zero(names, shares)
+    leave_pages(kinds, heap, pages, shares);
+    leave_frames(frames, pages, shares, counted);
+    all_zero(regions, shares)
 }

@@ -5,107 +5,77 @@ ghost use Rattle.std.specs.Prelude.{◌≡◌};
 ghost use Rattle.lists.specs.Ticks.{tick_at};
 ghost use Rattle.audit_slots.specs.Leads.{newest_fits, oldest_fits, entry_owns, entries_own, known, frame_leads, frames_lead};
 
-fn newest_fits(newest: &[u16], made: u32, owners: &[u8], i: u32) -> bool
-    ensures { result ≡ newest_fits newest.now made owners.now i }
+use frames::FramesIn;
+use pages::PagesIn;
+use regions::RegionsIn;
+
+// Whether entry i has no newest page, or one that was made and is its own.
+#[tactic(auto, unfolding(crate::specs::Leads::newest_fits))]
+fn newest_fits(newest: &[u16], pages: &PagesIn, i: u32) -> bool
+    ensures { result ≡ newest_fits newest.now pages.now.made pages.now.owners.now i }
 {
     let n = regions::newest_at(newest, i);
-    if n == 0 {
-        return true;
-    }
-    if pages::page_count(made) <= n - 1 {
-        return false;
-    }
-    (pages::owner_at(owners, n - 1) as usize) == (i as usize) + 1
+    n == 0 || (n - 1 < pages.page_count() && (pages.owner_at(n - 1) as usize) == (i as usize) + 1)
 }
 
-fn oldest_fits(heads: &[u8], oldest: &[u32], owners: &[u8], i: u32) -> bool
-    ensures { result ≡ oldest_fits (tick_at heads.now) oldest.now owners.now i }
+// Whether it has no oldest object, or one of its own.
+#[tactic(auto, unfolding(crate::specs::Leads::oldest_fits))]
+fn oldest_fits(heads: &[u8], oldest: &[u32], pages: &PagesIn, i: u32) -> bool
+    ensures { result ≡ oldest_fits (tick_at heads.now) oldest.now pages.now.owners.now i }
 {
     let v = regions::oldest_at(oldest, i);
-    if v == 0 {
-        return true;
-    }
-    if !audit_heap::stands_at(heads, v - 1) {
-        return false;
-    }
-    (pages::owner_of(owners, v) as usize) == (i as usize) + 1
+    v == 0
+        || (audit_heap::stands_at(heads, v - 1) && (pages.owner_of(v) as usize) == (i as usize) + 1)
 }
 
-fn entry_owns<'a>(
+// Whether entry i is not in use, or both are its own.
+#[tactic(auto, unfolding(crate::specs::Leads::entry_owns))]
+fn entry_owns(
     heads: &[u8],
-    names: &'a [u32],
-    newest: &'a [u16],
-    oldest: &'a [u32],
-    made: u32,
-    owners: &[u8],
+    regions: &RegionsIn,
+    newest: &[u16],
+    oldest: &[u32],
+    pages: &PagesIn,
     i: u32,
 ) -> bool
-    ensures { result ≡ entry_owns (tick_at heads.now) names.now newest.now oldest.now made owners.now i }
+    ensures { result ≡ entry_owns (tick_at heads.now) regions.now.names.now newest.now oldest.now pages.now.made pages.now.owners.now i }
 {
-    if regions::name_at(names, i) == 0 {
-        return true;
-    }
-    if !newest_fits(newest, made, owners, i) {
-        return false;
-    }
-    oldest_fits(heads, oldest, owners, i)
+    regions.name_at(i) == 0
+        || (newest_fits(newest, pages, i) && oldest_fits(heads, oldest, pages, i))
 }
 
 // Whether the newest page and the oldest object of each entry in use, if it has them, are its own.
-pub fn entries_own<'a>(
+pub fn entries_own(
     heads: &[u8],
-    names: &'a [u32],
-    newest: &'a [u16],
-    oldest: &'a [u32],
-    made: u32,
-    owners: &[u8],
+    regions: &RegionsIn,
+    newest: &[u16],
+    oldest: &[u32],
+    pages: &PagesIn,
 ) -> bool
-    ensures { result ≡ entries_own (tick_at heads.now) names.now newest.now oldest.now made owners.now }
+    ensures { result ≡ entries_own (tick_at heads.now) regions.now.names.now newest.now oldest.now pages.now.made pages.now.owners.now }
 {
-    let mut i: u32 = 0;
-    while i < 64 {
-        if !entry_owns(heads, names, newest, oldest, made, owners, i) {
-            return false;
-        }
-        i += 1;
-    }
-    true
+    (0..64).all(|i| entry_owns(heads, regions, newest, oldest, pages, i))
 }
 
+// Whether a pointer is null or leads to an object.
+#[tactic(auto, unfolding(crate::specs::Leads::known))]
 fn known(heads: &[u8], v: u32) -> bool
     ensures { result ≡ known (tick_at heads.now) v }
 {
-    if v == 0 {
-        return true;
-    }
-    audit_heap::stands_at(heads, v - 1)
+    v == 0 || audit_heap::stands_at(heads, v - 1)
 }
 
-fn frame_leads<'a>(heads: &[u8], widths: &'a [u8], slots: &'a [u32], i: u32) -> bool
-    ensures { result ≡ frame_leads (tick_at heads.now) widths.now slots.now i }
+fn frame_leads(heads: &[u8], frames: &FramesIn, i: u32) -> bool
+    ensures { result ≡ frame_leads (tick_at heads.now) frames.now.widths.now frames.now.slots.now i }
 {
-    let n = frames::width_at(widths, i);
-    let mut s: u32 = 0;
-    while s < n {
-        if !known(heads, frames::slot_at(slots, i, s)) {
-            return false;
-        }
-        s += 1;
-    }
-    true
+    let n = frames.width_at(i);
+    (0..n).all(|s| known(heads, frames.slot_at(i, s)))
 }
 
 // Whether every slot is null or leads to an object.
-pub fn frames_lead<'a>(heads: &[u8], standing: u32, widths: &'a [u8], slots: &'a [u32]) -> bool
-    ensures { result ≡ frames_lead (tick_at heads.now) standing widths.now slots.now }
+pub fn frames_lead(heads: &[u8], frames: &FramesIn) -> bool
+    ensures { result ≡ frames_lead (tick_at heads.now) frames.now.standing frames.now.widths.now frames.now.slots.now }
 {
-    let n = frames::frame_count(standing);
-    let mut i: u32 = 0;
-    while i < n {
-        if !frame_leads(heads, widths, slots, i) {
-            return false;
-        }
-        i += 1;
-    }
-    true
+    let n = frames.frame_count();
+    (0..n).all(|i| frame_leads(heads, frames, i))
 }

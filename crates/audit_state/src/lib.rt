@@ -1,110 +1,79 @@
 // The audit's tests that read no heap word: limits, m, kinds and frames; and regions, by audit_regions.
 #![tactic(auto)]
 
-ghost use Rattle.std.specs.Prelude.{◌≡◌};
-ghost use Rattle.outcomes.specs.Sound.{within};
-ghost use Rattle.audit_state.specs.Fits.{numbers_fit, marks_fit, kinds_fit, widths_fit, state_fits_in};
+ghost use Rattle.std.specs.Prelude.{◌≡◌, ◌<◌};
+ghost use Rattle.audit_state.specs.Fits.{numbers_fit, marks_fit, kind_fits, kinds_fit, widths_fit, state_fits_in};
 
-fn within(a: u32, b: u32, n: u32) -> bool
-    ensures { result ≡ within a b n }
-{
-    if a <= n { n <= b } else { false }
-}
+use frames::FramesIn;
+use kinds::KindsIn;
+use regions::RegionsIn;
 
 // The limits on single numbers, m, and the length n of the heap.
-fn numbers_fit(made: u32, n: usize, declared: u32, standing: u32, counted: u32, given: u32) -> bool
-    ensures { result ≡ numbers_fit made n declared standing counted given }
+#[tactic(auto, unfolding(crate::specs::Fits::numbers_fit))]
+fn numbers_fit(
+    made: u32,
+    n: usize,
+    kinds: &KindsIn,
+    frames: &FramesIn,
+    counted: u32,
+    given: u32,
+) -> bool
+    ensures { result ≡ numbers_fit made n kinds.now.declared frames.now.standing counted given }
 {
-    if !within(1, 256, made) {
-        return false;
-    }
-    if n != 64 * (made as usize) {
-        return false;
-    }
-    if 16 < declared {
-        return false;
-    }
-    if 32 < standing {
-        return false;
-    }
-    if frames::top(standing) < counted {
-        return false;
-    }
-    given <= 1000000
+    (1..=256).contains(&made)
+        && n == 64 * (made as usize)
+        && kinds.declared <= 16
+        && frames.standing <= 32
+        && counted <= frames.top()
+        && given <= 1000000
 }
 
 // Whether no mark of kind n is above 4.
-fn marks_fit<'a>(declared: u32, sizes: &'a [u8], marks: &'a [u8], n: u32) -> bool
-    ensures { result ≡ marks_fit declared sizes.now marks.now n }
+fn marks_fit(kinds: &KindsIn, n: u32) -> bool
+    ensures { result ≡ marks_fit kinds.now.declared kinds.now.sizes.now kinds.now.marks.now n }
 {
-    let size = kinds::size_of(declared, sizes, n);
-    let mut w: u32 = 0;
-    while w < size {
-        if 4 < kinds::mark_at(marks, n, w) {
-            return false;
-        }
-        w += 1;
-    }
-    true
+    let size = kinds.size_of(n);
+    (0..size).all(|w| kinds.mark_at(n, w) <= 4)
 }
 
-fn kinds_fit<'a>(declared: u32, sizes: &'a [u8], marks: &'a [u8]) -> bool
-    ensures { result ≡ kinds_fit declared sizes.now marks.now }
+// Whether the kind at place i has 1 to 16 words, and no mark above 4.
+#[tactic(auto, unfolding(crate::specs::Fits::kind_fits))]
+fn kind_fits(kinds: &KindsIn, i: u32) -> bool
+    ensures { i < 16 → result ≡ kind_fits kinds.now.declared kinds.now.sizes.now kinds.now.marks.now i }
 {
-    let n = kinds::kind_count(declared);
-    let mut i: u32 = 0;
-    while i < n {
-        if !within(1, 16, cells::byte(sizes, i as usize)) {
-            return false;
-        }
-        if !marks_fit(declared, sizes, marks, i + 1) {
-            return false;
-        }
-        i += 1;
-    }
-    true
+    (1..=16).contains(&cells::get(kinds.sizes, i as usize)) && marks_fit(kinds, i.wrapping_add(1))
+}
+
+fn kinds_fit(kinds: &KindsIn) -> bool
+    ensures { result ≡ kinds_fit kinds.now.declared kinds.now.sizes.now kinds.now.marks.now }
+{
+    let n = kinds.kind_count();
+    (0..n).all(|i| kind_fits(kinds, i))
 }
 
 // Whether every frame has 1 to 8 slots.
-fn widths_fit(standing: u32, widths: &[u8]) -> bool
-    ensures { result ≡ widths_fit standing widths.now }
+fn widths_fit(frames: &FramesIn) -> bool
+    ensures { result ≡ widths_fit frames.now.standing frames.now.widths.now }
 {
-    let n = frames::frame_count(standing);
-    let mut i: u32 = 0;
-    while i < n {
-        if !within(1, 8, frames::width_at(widths, i)) {
-            return false;
-        }
-        i += 1;
-    }
-    true
+    let n = frames.frame_count();
+    (0..n).all(|i| (1..=8).contains(&frames.width_at(i)))
 }
 
 // All of these, of a heap of n words.
-pub fn state_fits<'a>(
+#[tactic(auto, unfolding(crate::specs::Fits::state_fits_in))]
+pub fn state_fits(
     made: u32,
     n: usize,
-    declared: u32,
-    sizes: &'a [u8],
-    marks: &'a [u8],
-    standing: u32,
+    kinds: &KindsIn,
+    frames: &FramesIn,
     counted: u32,
-    widths: &'a [u8],
     given: u32,
-    names: &'a [u32],
-    parents: &'a [u8],
-    levels: &'a [u8],
+    regions: &RegionsIn,
 ) -> bool
-    ensures { result ≡ state_fits_in made n declared sizes.now marks.now standing counted widths.now given names.now parents.now levels.now }
+    ensures { result ≡ state_fits_in made n kinds.now.declared kinds.now.sizes.now kinds.now.marks.now frames.now.standing counted frames.now.widths.now given regions.now.names.now regions.now.parents.now regions.now.levels.now }
 {
-    if !numbers_fit(made, n, declared, standing, counted, given) {
-        return false;
-    }
-    if !kinds_fit(declared, sizes, marks) {
-        return false;
-    }
-    if !widths_fit(standing, widths) {
-        return false;
-    }
-    audit_regions::regions_fit(given, names, parents, levels)
+    numbers_fit(made, n, kinds, frames, counted, given)
+        && kinds_fit(kinds)
+        && widths_fit(frames)
+        && audit_regions::regions_fit(given, regions)
 }

@@ -2,14 +2,10 @@
 // A call costs the difference of two runs that differ by so many calls: making the store cancels out.
 #![tactic(auto)]
 
-use frames::Frames;
-use kinds::Kinds;
-use pages::Pages;
-use regions::Regions;
-use state::{Done, Reply, State};
+use state::{Reply, State};
 
 // As an argument a or b of a row: the name that was given last.
-const LAST: u32 = 4294967295;
+const LAST: u32 = u32::MAX;
 
 // More calls than any run makes.
 const MOST: usize = 1000000000;
@@ -19,37 +15,20 @@ fn meant(x: u32, given: u32) -> u32 {
     if x == LAST { given } else { x }
 }
 
-// The row after row j of n, round and round.
-fn after(j: usize, n: usize) -> usize {
-    if j < n {
-        if j + 1 < n {
-            return j + 1;
+// What replies add up to: the grounds of refusal, and the values.
+#[derive(Clone, Copy, Default)]
+struct Sum {
+    refused: u32,
+    values: u32,
+}
+
+impl Sum {
+    fn and(self, r: Reply) -> Sum {
+        let values = r.a.wrapping_add(r.b).wrapping_add(r.c).wrapping_add(r.d);
+        Sum {
+            refused: self.refused.wrapping_add(r.refusal),
+            values: self.values.wrapping_add(values),
         }
-    }
-    0
-}
-
-// What a reply says, added to the sums: the grounds of refusal, and in `a` the values.
-fn noted(sum: Reply, r: Reply) -> Reply {
-    let ab = std::num::wrapping_add_u32(r.a, r.b);
-    let cd = std::num::wrapping_add_u32(r.c, r.d);
-    let all = std::num::wrapping_add_u32(ab, cd);
-    Reply {
-        refusal: std::num::wrapping_add_u32(sum.refusal, r.refusal),
-        a: std::num::wrapping_add_u32(sum.a, all),
-        b: 0,
-        c: 0,
-        d: 0,
-    }
-}
-
-fn nothing() -> Reply {
-    Reply {
-        refusal: 0,
-        a: 0,
-        b: 0,
-        c: 0,
-        d: 0,
     }
 }
 
@@ -65,55 +44,30 @@ fn viewed(part: &[u32]) -> Reply {
     }
 }
 
-// The calls of these rows, n in all, round and round, each on what the one before left: in place, by `store::call_in`. A row is the call's number and four arguments. Gives the sums of the replies, and the state.
-fn in_place(s: State, heap: &mut [u32], rows: &[[u32; 5]], list: &[u32], n: usize) -> Done {
-    let mut standing = s.frames.standing;
-    let mut counted = s.frames.counted;
-    let mut declared = s.kinds.declared;
-    let mut given = s.regions.given;
-    let mut made = s.pages.made;
-    let mut widths = s.frames.widths;
-    let mut slots = s.frames.slots;
-    let mut sizes = s.kinds.sizes;
-    let mut marks = s.kinds.marks;
-    let mut names = s.regions.names;
-    let mut parents = s.regions.parents;
-    let mut levels = s.regions.levels;
-    let mut shares = s.regions.shares;
-    let mut newest = s.regions.newest;
-    let mut oldest = s.regions.oldest;
-    let mut owners = s.pages.owners;
-    let mut taken = s.pages.taken;
-    let mut sum = nothing();
-    let mut i: usize = 0;
-    let mut j: usize = 0;
-    while j < rows.len() {
-        if n <= i {
-            break;
-        }
-        i += 1;
-        let r = rows[j];
-        j = after(j, rows.len());
-        let a = meant(r[1], given);
-        let b = meant(r[2], given);
+// The calls of these rows, n in all, round and round, each on what the one before left: in place, by `store::call_in`. A row is the call's number and four arguments.
+fn in_place(s: &mut State, heap: &mut [u32], rows: &[[u32; 5]], list: &[u32], n: usize) -> Sum {
+    let mut sum = Sum::default();
+    for r in rows.iter().cycle().take(n) {
+        let a = meant(r[1], s.regions.given);
+        let b = meant(r[2], s.regions.given);
         let reply = store::call_in(
-            &mut standing,
-            &mut counted,
-            &mut declared,
-            &mut given,
-            &mut made,
-            &mut widths,
-            &mut slots,
-            &mut sizes,
-            &mut marks,
-            &mut names,
-            &mut parents,
-            &mut levels,
-            &mut shares,
-            &mut newest,
-            &mut oldest,
-            &mut owners,
-            &mut taken,
+            &mut s.frames.standing,
+            &mut s.frames.counted,
+            &mut s.kinds.declared,
+            &mut s.regions.given,
+            &mut s.pages.made,
+            &mut s.frames.widths,
+            &mut s.frames.slots,
+            &mut s.kinds.sizes,
+            &mut s.kinds.marks,
+            &mut s.regions.names,
+            &mut s.regions.parents,
+            &mut s.regions.levels,
+            &mut s.regions.shares,
+            &mut s.regions.newest,
+            &mut s.regions.oldest,
+            &mut s.pages.owners,
+            &mut s.pages.taken,
             heap,
             r[0],
             a,
@@ -122,55 +76,20 @@ fn in_place(s: State, heap: &mut [u32], rows: &[[u32; 5]], list: &[u32], n: usiz
             r[4],
             list,
         );
-        sum = noted(sum, reply);
+        sum = sum.and(reply);
     }
-    let state = State {
-        frames: Frames {
-            standing,
-            counted,
-            widths,
-            slots,
-        },
-        kinds: Kinds {
-            declared,
-            sizes,
-            marks,
-        },
-        regions: Regions {
-            given,
-            names,
-            parents,
-            levels,
-            shares,
-            newest,
-            oldest,
-        },
-        pages: Pages {
-            made,
-            owners,
-            taken,
-        },
-    };
-    Done { state, reply: sum }
+    sum
 }
 
 // The same by value, by the calls' names: those that change the state. 100 more than a number: that call by `store::call`.
-fn changing(s: State, heap: &mut [u32], rows: &[[u32; 5]], list: &[u32], n: usize) -> Done {
+fn changing(s: State, heap: &mut [u32], rows: &[[u32; 5]], list: &[u32], n: usize) -> Sum {
     // The compiler puts no function with large locals into one that can call itself: what is measured is a call as it stands.
     if MOST < n {
         return changing(s, heap, rows, list, MOST);
     }
     let mut t = s;
-    let mut sum = nothing();
-    let mut i: usize = 0;
-    let mut j: usize = 0;
-    while j < rows.len() {
-        if n <= i {
-            break;
-        }
-        i += 1;
-        let r = rows[j];
-        j = after(j, rows.len());
+    let mut sum = Sum::default();
+    for r in rows.iter().cycle().take(n) {
         let a = meant(r[1], t.regions.given);
         let b = meant(r[2], t.regions.given);
         let c = r[3];
@@ -192,30 +111,19 @@ fn changing(s: State, heap: &mut [u32], rows: &[[u32; 5]], list: &[u32], n: usiz
             _ => store::call(t, heap, r[0] % 100, a, b, c, r[4], list),
         };
         t = d.state;
-        sum = noted(sum, d.reply);
+        sum = sum.and(d.reply);
     }
-    Done {
-        state: t,
-        reply: sum,
-    }
+    sum
 }
 
 // The same by value, by the calls' names: those that only answer, and put.
-fn answering(s: State, heap: &mut [u32], rows: &[[u32; 5]], n: usize) -> Reply {
+fn answering(s: State, heap: &mut [u32], rows: &[[u32; 5]], n: usize) -> Sum {
     // As in `changing`.
     if MOST < n {
         return answering(s, heap, rows, MOST);
     }
-    let mut sum = nothing();
-    let mut i: usize = 0;
-    let mut j: usize = 0;
-    while j < rows.len() {
-        if n <= i {
-            break;
-        }
-        i += 1;
-        let r = rows[j];
-        j = after(j, rows.len());
+    let mut sum = Sum::default();
+    for r in rows.iter().cycle().take(n) {
         let a = r[1];
         let reply = match r[0] {
             15 => store::put(s, heap, a, r[2], r[3]),
@@ -228,52 +136,38 @@ fn answering(s: State, heap: &mut [u32], rows: &[[u32; 5]], n: usize) -> Reply {
             22 => store::audit(s, heap),
             _ => store::locate(s, heap, a),
         };
-        sum = noted(sum, reply);
+        sum = sum.and(reply);
     }
     sum
 }
 
 // The five kinds of every store here: a free pointer and a number; one free pointer; three numbers; three free pointers; one pointer marked 3. And a frame of 8 slots.
 fn begun(s: State, heap: &[u32]) -> State {
-    let both = [1u32, 0];
-    let pointer = [1u32];
-    let data = [0u32, 0, 0];
-    let pointers = [1u32, 1, 1];
-    let up = [3u32];
-    let a = store::declare(s, heap, &both);
-    let b = store::declare(a.state, heap, &pointer);
-    let c = store::declare(b.state, heap, &data);
-    let d = store::declare(c.state, heap, &pointers);
-    let e = store::declare(d.state, heap, &up);
-    let f = store::push(e.state, heap, 8);
-    f.state
+    let s = store::declare(s, heap, &[1, 0]).state;
+    let s = store::declare(s, heap, &[1]).state;
+    let s = store::declare(s, heap, &[0, 0, 0]).state;
+    let s = store::declare(s, heap, &[1, 1, 1]).state;
+    let s = store::declare(s, heap, &[3]).state;
+    store::push(s, heap, 8).state
 }
 
-// A store after the calls `once`, each once, and then so many calls of `again`, round and round.
+// A store after the calls `once`, each once, and then so many calls of `again`, round and round; and the sum of the grounds of refusal.
 fn prepared(
     heap: &mut [u32],
     once: &[[u32; 5]],
     again: &[[u32; 5]],
     many: usize,
     list: &[u32],
-) -> Done {
-    let m = store::make(heap);
-    let s = begun(m.state, heap);
-    let t = in_place(s, heap, once, list, once.len());
-    let u = in_place(t.state, heap, again, list, many);
-    let state = u.state;
-    let reply = noted(t.reply, u.reply);
-    Done { state, reply }
-}
-
-// The sum of the grounds of refusal times 2^32, and the sum of the values of the calls measured.
-fn told(before: Reply, r: Reply) -> u64 {
-    let refused = std::num::wrapping_add_u32(before.refusal, r.refusal);
-    refused as u64 * 4294967296 + r.a as u64
+) -> (State, u32) {
+    let made = store::make(heap);
+    let mut s = begun(made.state, heap);
+    let first = in_place(&mut s, heap, once, list, once.len());
+    let then = in_place(&mut s, heap, again, list, many);
+    (s, first.refused.wrapping_add(then.refused))
 }
 
 // Makes a store (`prepared`), then n calls of `rows`: way 0 in place, 1 by value, those that change the state, 2 by value, the others.
-// Gives what the replies add up to: C can see that all calls were accepted, and the compiler leaves none out.
+// Gives what the replies add up to, the sum of the grounds of refusal times 2^32, and the sum of the values of the n calls: C can see that all calls were accepted, and the compiler leaves none out.
 #[unsafe(no_mangle)]
 pub extern "C" fn bench(
     heap: &mut [u32],
@@ -285,16 +179,12 @@ pub extern "C" fn bench(
     way: u32,
     n: usize,
 ) -> u64 {
-    let p = prepared(heap, once, again, many, list);
-    let s = p.state;
-    if way == 0 {
-        let d = in_place(s, heap, rows, list, n);
-        return told(p.reply, d.reply);
-    }
-    if way == 1 {
-        let d = changing(s, heap, rows, list, n);
-        return told(p.reply, d.reply);
-    }
-    let r = answering(s, heap, rows, n);
-    told(p.reply, r)
+    let (mut s, before) = prepared(heap, once, again, many, list);
+    let sum = match way {
+        0 => in_place(&mut s, heap, rows, list, n),
+        1 => changing(s, heap, rows, list, n),
+        _ => answering(s, heap, rows, n),
+    };
+    let refused = before.wrapping_add(sum.refused);
+    refused as u64 * 4294967296 + sum.values as u64
 }

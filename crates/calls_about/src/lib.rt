@@ -1,10 +1,12 @@
 // Calls that only answer: same, about and totals (document 01's calls 18, 19 and 21), and locate (document 02, card 4). Each stands in place, on what it reads of the state.
+// The parameters of each are the numbers and arrays of the state one by one, and no struct of them: README gives them so, and a host lends them so.
 #![tactic(auto)]
 
 ghost use Rattle.std.specs.Prelude.{List, ℕ};
 ghost use Rattle.model.specs.Model.{same, about, totals, locate, ask};
 ghost use Rattle.lent.specs.Lent.{InPlace, with_made, with_standing, with_counted, with_widths, with_slots, with_names, with_owners};
 
+use frames::FramesIn;
 use state::Reply;
 
 // Document 01's call 18: 1 if two slots hold one pointer, or both null; else 0.
@@ -19,16 +21,17 @@ pub fn same_in(
 ) -> Reply
     ensures { InPlace (same a b) (λ s. with_made made (with_standing standing (with_widths widths.now (with_slots slots.now s)))) heap.now result (λ s. s) heap.now }
 {
-    let g = checks::top_refusal(made, heap.len(), standing, widths, a, b);
-    if g != 0 {
-        return checks::refused(g);
+    let frames = FramesIn {
+        standing,
+        widths,
+        slots,
+    };
+    if let Err(r) = checks::check_top(made, heap.len(), &frames, a, b) {
+        return checks::refuses(r);
     }
-    let x = checks::top_slot(standing, slots, a);
-    let y = checks::top_slot(standing, slots, b);
-    if x == y {
-        return checks::gives(1, 0, 0, 0);
-    }
-    checks::gives(0, 0, 0, 0)
+    let x = checks::slot_of_top(&frames, a);
+    let y = checks::slot_of_top(&frames, b);
+    checks::gives(u32::from(x == y), 0, 0, 0)
 }
 
 // Document 01's call 19: region and kind of the object in the slot, zeros for null.
@@ -44,11 +47,15 @@ pub fn about_in(
 ) -> Reply
     ensures { InPlace (about slot) (λ s. with_made made (with_standing standing (with_widths widths.now (with_slots slots.now (with_names names.now (with_owners owners.now s)))))) heap.now result (λ s. s) heap.now }
 {
-    let g = checks::top_refusal(made, heap.len(), standing, widths, slot, slot);
-    if g != 0 {
-        return checks::refused(g);
+    let frames = FramesIn {
+        standing,
+        widths,
+        slots,
+    };
+    if let Err(r) = checks::check_top(made, heap.len(), &frames, slot, slot) {
+        return checks::refuses(r);
     }
-    let v = checks::top_slot(standing, slots, slot);
+    let v = checks::slot_of_top(&frames, slot);
     let n = regions::name_of(names, pages::owner_of(owners, v));
     checks::gives(n, objects::kind_of(objects::object_of(heap, v)), 0, 0)
 }
@@ -64,11 +71,15 @@ pub fn locate_in(
 ) -> Reply
     ensures { InPlace (ask (locate slot)) (λ s. with_made made (with_standing standing (with_widths widths.now (with_slots slots.now s)))) heap.now result (λ s. s) heap.now }
 {
-    let g = checks::top_refusal(made, heap.len(), standing, widths, slot, slot);
-    if g != 0 {
-        return checks::refused(g);
+    let frames = FramesIn {
+        standing,
+        widths,
+        slots,
+    };
+    if let Err(r) = checks::check_top(made, heap.len(), &frames, slot, slot) {
+        return checks::refuses(r);
     }
-    let v = checks::top_slot(standing, slots, slot);
+    let v = checks::slot_of_top(&frames, slot);
     checks::gives(pages::page_of(v), pages::word_of(v), 0, 0)
 }
 

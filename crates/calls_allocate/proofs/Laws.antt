@@ -27,11 +27,14 @@ use Rattle.checks.specs.Checks.{first_refusal}
 use Rattle.checks.specs.Laws.Tests.{top, one_slot, else_first, else_next}
 use Rattle.calls_allocate.specs.Places.{allocate_tests, free_place, place_for, oldest_with}
 
--- g is what a function gave for the tests, and it accepts
-pub object_passed : (declared i kind v g : ℕ) → g ≡ reason (allocate_tests declared i kind v) → g ≡ 0 → (i < 64) × (v ≢ 0)
+pub object_passed : (declared i kind v : ℕ) → 0 ≡ reason (allocate_tests declared i kind v) → (i < 64) × (v ≢ 0)
 unfolding allocate_tests
-object_passed declared i kind v g e z =
-    let t = all_passed (allocate_tests declared i kind v) refl (sym e ∙ z) in (ltb-true i 64 (not-false _ t.0), eqb-false v 0 t.1.1.0)
+object_passed declared i kind v e =
+    let t = all_passed (allocate_tests declared i kind v) refl (sym e) in (ltb-true i 64 (not-false _ t.0), eqb-false v 0 t.1.1.0)
+
+-- they accept the place that there is
+pub at_place : (declared i kind v p : ℕ) → v ≡ p → 0 ≡ reason (allocate_tests declared i kind p) → 0 ≡ reason (allocate_tests declared i kind v)
+at_place declared i kind v p e h = rw e h
 
 pub size_small : (declared : ℕ) (sizes : List ℕ) (n m : ℕ) → m ≡ size_in declared sizes n → m ≤ 16
 size_small declared sizes n m e = rw e (size_most declared sizes n)
@@ -127,6 +130,6 @@ module _ (S : Store) (slot region kind : ℕ) where
     unfolding Accepted size size_of entry_of
     allocate_effect a T z p h =
         let f : v ≡ place S entry (1 + words) = placed ∙ rw (paged, found, sized) in
-        let j = place_some S entry (1 + words) (omega arith) (λ o. (object_passed (kinds S).declared e kind v g tested z).1 (f ∙ o)) in
+        let j = place_some S entry (1 + words) (omega arith) (λ o. (object_passed (kinds S).declared e kind v (sym z ∙ tested)).1 (f ∙ o)) in
         by_effect (allocate slot region kind) S a T (allocate_second ∙ z)
         (p, h ∙ ap₂ (λ x y. with_object x y v) found sized ∙ made (page_for S entry (1 + words)) v j.0 (f ∙ j.1))

@@ -1,5 +1,5 @@
 -- Where a region's next object stands (document 01, The store, on objects; document 02, card 4), and allocate's tests, over the numbers and lists that they read. Assumes nothing.
-use Rattle.std.specs.Prelude.{Bool, not, ◌||◌, List, [], ◌∷◌, ℕ, ◌+◌, ◌-◌, ◌*◌, eqb, ltb}
+use Rattle.std.specs.Prelude.{Bool, not, ◌||◌, List, [], ◌∷◌, ℕ, ◌+◌, ◌-◌, ◌*◌, eqb, ltb, Option, Some, None}
 use Rattle.lists.specs.Lists.{pick}
 use Rattle.model.specs.Calls.{◌yields◌}
 use Rattle.kinds.specs.Kinds.{kind_count_in}
@@ -14,6 +14,11 @@ free_place made owners = pick (ltb (first_free_in made owners) (page_count_in ma
 -- or at the start of the lowest free page where it has none or the object does not fit there; 0 where there is no such page
 unfoldable pub place_for : ℕ → List ℕ → List ℕ → ℕ → ℕ → ℕ
 place_for made owners taken q n = pick (roomy_in taken q n) (64 * (q - 1) + taken_in taken (q - 1) + 1) (free_place made owners)
+
+-- a place as these numbers give it: 0 for none
+abbrev pub place_or_0 : Option ℕ → ℕ
+place_or_0 None = 0
+place_or_0 (Some v) = v
 
 -- a region's oldest object once v is made, where it was o; 0 where there was none
 abbrev pub oldest_with : ℕ → ℕ → ℕ

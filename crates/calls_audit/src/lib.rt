@@ -1,4 +1,5 @@
 // The call audit.
+// Its parameters are the numbers and arrays of the state one by one, and no struct of them: README gives it so, and a host lends them so.
 #![tactic(auto)]
 
 ghost use Rattle.std.specs.Prelude.{◌≡◌, length};
@@ -6,93 +7,62 @@ ghost use Rattle.model.specs.Model.{audit};
 ghost use Rattle.lent.specs.Lent.{InPlace, with_made, with_standing, with_counted, with_declared, with_given, with_widths, with_slots, with_sizes, with_marks, with_names, with_parents, with_levels, with_shares, with_newest, with_oldest, with_owners, with_taken};
 ghost use Rattle.calls_audit.specs.Passes.{heap_fits, passes_in};
 
+use frames::FramesIn;
+use kinds::KindsIn;
+use pages::PagesIn;
+use regions::RegionsIn;
 use state::Reply;
 
 // The tests of the heap. Headers are ticked in `heads`.
-fn heap_fits<'a>(
-    declared: u32,
-    sizes: &'a [u8],
-    marks: &'a [u8],
+#[tactic(auto, unfolding(crate::specs::Passes::heap_fits))]
+fn heap_fits(
+    kinds: &KindsIn,
     heap: &[u32],
-    names: &'a [u32],
-    parents: &'a [u8],
-    levels: &'a [u8],
-    newest: &'a [u16],
-    oldest: &'a [u32],
-    made: u32,
-    owners: &'a [u8],
-    taken: &'a [u8],
-    standing: u32,
-    widths: &'a [u8],
-    slots: &'a [u32],
+    regions: &RegionsIn,
+    newest: &[u16],
+    oldest: &[u32],
+    pages: &PagesIn,
+    frames: &FramesIn,
     heads: &mut [u8],
 ) -> bool
-    ensures { result ≡ heap_fits heads.old declared sizes.now marks.now heap.now names.now parents.now levels.now newest.now oldest.now made owners.now taken.now standing widths.now slots.now }
+    ensures { result ≡ heap_fits heads.old kinds.now.declared kinds.now.sizes.now kinds.now.marks.now heap.now regions.now.names.now regions.now.parents.now regions.now.levels.now newest.now oldest.now pages.now.made pages.now.owners.now pages.now.taken.now frames.now.standing frames.now.widths.now frames.now.slots.now }
 {
-    if !audit_heap::pages_fit(declared, sizes, heap, names, made, owners, taken) {
+    if !audit_heap::pages_fit(kinds, heap, regions, pages) {
         return false;
     }
-    audit_heap::tick_headers(declared, sizes, heap, made, owners, taken, heads);
-    if !audit_slots::entries_own(heads, names, newest, oldest, made, owners) {
-        return false;
-    }
-    if !audit_slots::frames_lead(heads, standing, widths, slots) {
-        return false;
-    }
-    audit_words::pages_hold(
-        declared, sizes, marks, heap, heads, names, parents, levels, made, owners, taken,
-    )
+    audit_heap::tick_headers(kinds, heap, pages, heads);
+    audit_slots::entries_own(heads, regions, newest, oldest, pages)
+        && audit_slots::frames_lead(heads, frames)
+        && audit_words::pages_hold(kinds, heap, heads, regions, pages)
 }
 
 // All tests, each after those that it relies on.
-fn passes<'a>(
+#[tactic(auto, unfolding(crate::specs::Passes::passes_in))]
+fn passes(
     heads: &mut [u8],
     shares: &mut [u32],
     heap: &[u32],
-    declared: u32,
-    sizes: &'a [u8],
-    marks: &'a [u8],
-    standing: u32,
+    kinds: &KindsIn,
+    frames: &FramesIn,
     counted: u32,
-    widths: &'a [u8],
-    slots: &'a [u32],
     given: u32,
-    names: &'a [u32],
-    parents: &'a [u8],
-    levels: &'a [u8],
-    newest: &'a [u16],
-    oldest: &'a [u32],
-    made: u32,
-    owners: &'a [u8],
-    taken: &'a [u8],
+    regions: &RegionsIn,
+    newest: &[u16],
+    oldest: &[u32],
+    pages: &PagesIn,
 ) -> bool
-    ensures { result ≡ passes_in heads.old shares.old heap.now declared sizes.now marks.now standing counted widths.now slots.now given names.now parents.now levels.now newest.now oldest.now made owners.now taken.now }
+    ensures { result ≡ passes_in heads.old shares.old heap.now kinds.now.declared kinds.now.sizes.now kinds.now.marks.now frames.now.standing counted frames.now.widths.now frames.now.slots.now given regions.now.names.now regions.now.parents.now regions.now.levels.now newest.now oldest.now pages.now.made pages.now.owners.now pages.now.taken.now }
 {
-    if !audit_state::state_fits(
-        made,
+    audit_state::state_fits(
+        pages.made,
         heap.len(),
-        declared,
-        sizes,
-        marks,
-        standing,
+        kinds,
+        frames,
         counted,
-        widths,
         given,
-        names,
-        parents,
-        levels,
-    ) {
-        return false;
-    }
-    if !heap_fits(
-        declared, sizes, marks, heap, names, parents, levels, newest, oldest, made, owners, taken,
-        standing, widths, slots, heads,
-    ) {
-        return false;
-    }
-    audit_counts::counts_fit(
-        declared, sizes, marks, heap, made, owners, taken, counted, widths, slots, names, shares,
-    )
+        regions,
+    ) && heap_fits(kinds, heap, regions, newest, oldest, pages, frames, heads)
+        && audit_counts::counts_fit(kinds, heap, pages, frames, counted, regions, shares)
 }
 
 // What the types say of the names. It does nothing: its contract is what it is for.
@@ -128,12 +98,28 @@ pub fn audit_in<'a>(
     let mut c = *shares;
     regions::shares_shaped(c);
     let mut heads = [0; 16384];
+    let frames = FramesIn {
+        standing,
+        widths,
+        slots,
+    };
+    let kinds = KindsIn {
+        declared,
+        sizes,
+        marks,
+    };
+    let regions = RegionsIn {
+        names,
+        parents,
+        levels,
+    };
+    let pages = PagesIn {
+        made,
+        owners,
+        taken,
+    };
     let sound = passes(
-        &mut heads, &mut c, heap, declared, sizes, marks, standing, counted, widths, slots, given,
-        names, parents, levels, newest, oldest, made, owners, taken,
+        &mut heads, &mut c, heap, &kinds, &frames, counted, given, &regions, newest, oldest, &pages,
     );
-    if sound {
-        return checks::gives(1, 0, 0, 0);
-    }
-    checks::gives(0, 0, 0, 0)
+    checks::gives(u32::from(sound), 0, 0, 0)
 }

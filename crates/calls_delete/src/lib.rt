@@ -1,9 +1,14 @@
 // The call delete, in the order of source document 000, chapter 4.5: the tests, the scan; then the pages are given back, which is the region library's part there.
+// Its parameters are the numbers and arrays of the state one by one, and no struct of them: README gives it so, and a host lends them so.
 #![tactic(auto)]
 
 ghost use Rattle.model.specs.Model.{delete};
 ghost use Rattle.lent.specs.Lent.{InPlace, with_made, with_standing, with_counted, with_declared, with_widths, with_slots, with_sizes, with_marks, with_names, with_parents, with_shares, with_owners, with_taken};
 
+use frames::FramesIn;
+use kinds::KindsIn;
+use members::Members;
+use pages::PagesIn;
 use state::Reply;
 
 // Document 01's call 23, for a filler (document 02, card 5): the region goes, with its objects and pages.
@@ -30,45 +35,48 @@ pub fn delete_in<'a>(
     let e = regions::entry_of(names, region);
     let tag = e + 1;
     let m = *counted;
-    // a byte for each number that a page's owner can be, the region's ticked
-    let mut members = [0u8; 256];
-    cells::store_byte(&mut members, tag as usize, 1);
-    // checked
-    let g = delete_parts::delete_refusal(
+    let frames = FramesIn {
+        standing,
+        widths,
+        slots,
+    };
+    let kinds = KindsIn {
+        declared,
+        sizes,
+        marks,
+    };
+    let pages = PagesIn {
         made,
+        owners,
+        taken,
+    };
+    let mut members = Members::none();
+    members.tick(tag);
+    // checked
+    if let Err(r) = delete_parts::delete_refusal(
+        &pages,
         heap.len(),
         filler,
         region,
         e,
-        tag,
         names,
         parents,
         shares,
-        standing,
+        &frames,
         m,
-        widths,
-        slots,
-        owners,
         &members,
-    );
-    if g != 0 {
-        return checks::refused(g);
+    ) {
+        return checks::refuses(r);
     }
     // scanned
-    let p = *owners;
-    apart::owners_shaped(p);
-    let before = *shares;
-    regions::shares_shaped(before);
-    let number = pages::pages_of(made, owners, tag);
-    apart::scan_held(
-        number, declared, sizes, marks, heap, made, owners, taken, &members, shares, filler,
-    );
+    let number = pages::pages_of(made, pages.owners, tag);
+    apart::scan_held(number, &kinds, heap, &pages, &members, shares, filler);
     // the frames that m is raised over enter the shares, by the owners before any page is given back
-    delete_parts::enter_frames(standing, m, widths, slots, owners, shares, filler);
+    delete_parts::enter_frames(&frames, m, pages.owners, shares, filler);
     // given back
     apart::give_back_one(made, owners, tag as u8);
-    regions::put_word(names, e, 0);
-    let raised = frames::top(standing);
+    cells::put(names, e as usize, 0);
+    let raised = frames.top();
     *counted = raised;
     checks::gives(number, 0, 0, 0)
 }

@@ -1,18 +1,26 @@
 // The call delete_all: regions that go together. 19 comes after the scan (source document 000, chapter 4.3.1, on an array of regions): a reference from member to member keeps none of them; what is left
 // of a count, or a slot, does.
+// Its parameters are the numbers and arrays of the state one by one, and no struct of them: README gives it so, and a host lends them so.
 #![tactic(auto)]
 
-ghost use Rattle.std.specs.Prelude.{◌≡◌, map};
+ghost use Rattle.std.specs.Prelude.{◌≡◌, map, IfOk};
 ghost use Rattle.model.specs.Model.{delete_all};
 ghost use Rattle.model.specs.Calls.{reason};
 ghost use Rattle.lent.specs.Lent.{InPlace, with_made, with_standing, with_counted, with_declared, with_widths, with_slots, with_sizes, with_marks, with_names, with_parents, with_shares, with_owners, with_taken};
 ghost use Rattle.lists.specs.Ticks.{tick_at, ticked};
+ghost use Rattle.refusals.specs.Refusals.{refused};
 ghost use Rattle.members.specs.Members.{tag_by};
 ghost use Rattle.calls_delete_all.specs.DeleteAll.{list_tests};
 
+use frames::FramesIn;
+use kinds::KindsIn;
+use members::Members;
+use pages::PagesIn;
+use refusals::Refusal;
 use state::Reply;
 
-// 21, 23, 22, then 2 and 3 for each name, then 18. The regions named are ticked, where it gives 0.
+// 21, 23, 22, then 2 and 3 for each name, then 18. The regions named are ticked, where it accepts.
+#[tactic(auto, using(crate::proofs::Order::in_order))]
 fn list_refusal<'a>(
     made: u32,
     words: usize,
@@ -20,25 +28,19 @@ fn list_refusal<'a>(
     list: &'a [u32],
     names: &'a [u32],
     parents: &'a [u8],
-    members: &mut [u8],
-) -> u32
-    ensures { (result ≡ reason (list_tests made words filler list.now names.now parents.now (tick_at (ticked members.old (map (tag_by names.now) list.now))))) × (result ≡ 0 → members.new ≡ ticked members.old (map (tag_by names.now) list.now)) }
+    members: &mut Members,
+) -> Result<(), Refusal>
+    ensures { (refused result ≡ reason (list_tests made words filler list.now names.now parents.now (tick_at (ticked members.old.ticks (map (tag_by names.now) list.now))))) × IfOk result (λ _. members.new.ticks ≡ ticked members.old.ticks (map (tag_by names.now) list.now)) }
 {
-    let first = checks::filler_refusal(made, words, filler);
-    if first != 0 {
-        return first;
-    }
+    checks::check_filler(made, words, filler)?;
     if members::wrong_names(list) {
-        return 22;
+        return Err(Refusal::WrongNames);
     }
-    let g = members::tick(names, list, members);
-    if g != 0 {
-        return g;
-    }
+    members.tick_named(names, list)?;
     if joint_parts::closed(names, parents, members) {
-        0
+        Ok(())
     } else {
-        18
+        Err(Refusal::Subregion)
     }
 }
 
@@ -65,31 +67,38 @@ pub fn delete_all_in<'a>(
     ensures { InPlace (delete_all list.now filler) (λ s. with_made made (with_standing standing (with_counted counted.old (with_declared declared (with_widths widths.now (with_slots slots.now (with_sizes sizes.now (with_marks marks.now (with_names names.old (with_parents parents.now (with_shares shares.old (with_owners owners.old (with_taken taken.now s))))))))))))) heap.now result (λ s. with_counted counted.new (with_names names.new (with_shares shares.new (with_owners owners.new s)))) heap.now }
 {
     let m = *counted;
-    // a byte for each number that a page's owner can be
-    let mut members = [0u8; 256];
-    let g = list_refusal(made, heap.len(), filler, list, names, parents, &mut members);
-    if g != 0 {
-        return checks::refused(g);
+    let frames = FramesIn {
+        standing,
+        widths,
+        slots,
+    };
+    let kinds = KindsIn {
+        declared,
+        sizes,
+        marks,
+    };
+    let pages = PagesIn {
+        made,
+        owners,
+        taken,
+    };
+    let mut members = Members::none();
+    if let Err(r) = list_refusal(made, heap.len(), filler, list, names, parents, &mut members) {
+        return checks::refuses(r);
     }
-    let p = *owners;
-    apart::owners_shaped(p);
     // scanned, on a copy of the shares
-    let before = *shares;
-    regions::shares_shaped(before);
-    let mut c = apart::scan(
-        declared, sizes, marks, heap, made, owners, taken, &members, before, filler,
-    );
+    let mut c = apart::scan(&kinds, heap, &pages, &members, *shares, filler);
     // the rest of the check
-    if joint_parts::pointed_at(standing, m, widths, slots, owners, &c, &members) {
-        return checks::refused(19);
+    if joint_parts::pointed_at(&frames, m, pages.owners, &c, &members) {
+        return checks::refuses(Refusal::Counted);
     }
     // the frames that m is raised over enter the shares, by the owners before any page is given back
-    delete_parts::enter_frames(standing, m, widths, slots, owners, &mut c, filler);
+    delete_parts::enter_frames(&frames, m, pages.owners, &mut c, filler);
     *shares = c;
     // given back
     let number = apart::give_back(made, owners, &members);
     joint_parts::give_up(names, &members);
-    let raised = frames::top(standing);
+    let raised = frames.top();
     *counted = raised;
     checks::gives(number, 0, 0, 0)
 }

@@ -1,29 +1,27 @@
 // The calls that make a store and its kinds (document 01's calls 1 and 2).
+// The parameters of each are the numbers and arrays of the state one by one, and no struct of them: README gives them so, and a host lends them so.
 #![tactic(auto)]
 
 ghost use Rattle.std.specs.Prelude.{◌≡◌, []};
+ghost use Rattle.refusals.specs.Refusals.{refused};
 ghost use Rattle.model.specs.Model.{declare};
 ghost use Rattle.model.specs.Calls.{reason, makes};
 ghost use Rattle.outcomes.specs.Outcome.{MakeOutcome, answer_of, store, blank};
 ghost use Rattle.lent.specs.Lent.{state_of, InPlace, with_made, with_declared, with_sizes, with_marks};
 ghost use Rattle.calls_make.specs.Tests.{declare_tests};
 
+use refusals::Refusal;
 use state::Reply;
 
 // Whether a heap of n words can be made a store: 64 times 1 to 256.
 fn makes(n: usize) -> bool
     ensures { result ≡ makes n }
 {
-    if n % 64 != 0 {
-        return false;
-    }
-    if n < 64 {
-        return false;
-    }
-    n <= 16384
+    n % 64 == 0 && 64 <= n && n <= 16384
 }
 
 // The state of a store that is not made: no page, region, kind or frame.
+#[tactic(auto, unfolding(outcomes::specs::Outcome::blank))]
 fn blank_in(
     standing: &mut u32,
     counted: &mut u32,
@@ -93,33 +91,35 @@ pub fn make_in(
     );
     let n = heap.len();
     if !makes(n) {
-        return checks::refused(1);
+        return checks::refuses(Refusal::HeapLength);
     }
     *given = 1;
     *made = (n / 64) as u32;
-    regions::put_word(names, 0, 1);
-    regions::put_byte(levels, 0, 1);
+    cells::put(names, 0, 1);
+    cells::put(levels, 0, 1);
     cells::clear(heap);
     checks::gives(0, 0, 0, 0)
 }
 
 // 21, 11 and 10, for a heap of n words.
-fn declare_refusal(made: u32, n: usize, declared: u32, marks: &[u32]) -> u32
-    ensures { result ≡ reason (declare_tests made n declared marks.now) }
+#[tactic(auto, unfolding(crate::specs::Tests::declare_tests))]
+fn declare_refusal(made: u32, n: usize, declared: u32, marks: &[u32]) -> Result<(), Refusal>
+    ensures { refused result ≡ reason (declare_tests made n declared marks.now) }
 {
     if pages::wrong_length(made, n) {
-        return 21;
+        return Err(Refusal::OtherHeap);
     }
     if kinds::marks_wrong(marks) {
-        return 11;
+        return Err(Refusal::WrongMarks);
     }
     if 16 <= declared {
-        return 10;
+        return Err(Refusal::KindsFull);
     }
-    0
+    Ok(())
 }
 
 // Document 01's call 2: a kind with the marks listed.
+#[tactic(auto, using(crate::proofs::Laws::declare_passed))]
 pub fn declare_in(
     made: u32,
     declared: &mut u32,
@@ -131,12 +131,11 @@ pub fn declare_in(
     ensures { InPlace (declare list.now) (λ s. with_made made (with_declared declared.old (with_sizes sizes.old (with_marks marks.old s)))) heap.now result (λ s. with_declared declared.new (with_sizes sizes.new (with_marks marks.new s))) heap.now }
 {
     let n = *declared;
-    let g = declare_refusal(made, heap.len(), n, list);
-    if g != 0 {
-        return checks::refused(g);
+    if let Err(r) = declare_refusal(made, heap.len(), n, list) {
+        return checks::refuses(r);
     }
     let kind = n + 1;
-    kinds::put_size(sizes, n, list.len() as u8);
+    cells::put(sizes, n as usize, list.len() as u8);
     kinds::put_marks(marks, 16 * n, list);
     *declared = kind;
     checks::gives(kind, 0, 0, 0)

@@ -1,8 +1,10 @@
 // The calls on the stack of frames: push, drop, hand_back.
+// The parameters of each are the numbers and arrays of the state one by one, and no struct of them: README gives them so, and a host lends them so.
 #![tactic(auto)]
 
 ghost use Rattle.std.specs.Prelude.{◌≡◌, [], ◌-◌};
 ghost use Rattle.lists.specs.Lists.{pick};
+ghost use Rattle.refusals.specs.Refusals.{refused};
 ghost use Rattle.model.specs.Model.{push, drop_frame, hand_back};
 ghost use Rattle.model.specs.Calls.{reason};
 ghost use Rattle.frames.specs.Frames.{top_in, uncounts_in};
@@ -12,27 +14,30 @@ ghost use Rattle.checks.specs.Checks.{first_refusal, filler_tests, beneath_tests
 ghost use Rattle.lent.specs.Lent.{InPlace, with_made, with_standing, with_counted, with_widths, with_slots, with_shares, with_owners};
 ghost use Rattle.calls_stack.specs.Stack.{push_tests, drop_tests};
 
+use frames::FramesIn;
+use refusals::Refusal;
+use regions::Way;
 use state::Reply;
 
-fn push_refusal(made: u32, n: usize, standing: u32, slots: u32) -> u32
-    ensures { result ≡ reason (push_tests made n standing slots) }
+// 21, 8 and 7, for a heap of n words.
+#[tactic(auto, unfolding(crate::specs::Stack::push_tests))]
+fn push_refusal(made: u32, n: usize, standing: u32, slots: u32) -> Result<(), Refusal>
+    ensures { refused result ≡ reason (push_tests made n standing slots) }
 {
     if pages::wrong_length(made, n) {
-        return 21;
+        return Err(Refusal::OtherHeap);
     }
-    if slots == 0 {
-        return 8;
-    }
-    if 8 < slots {
-        return 8;
+    if slots == 0 || 8 < slots {
+        return Err(Refusal::FrameSize);
     }
     if 32 <= standing {
-        return 7;
+        return Err(Refusal::FramesFull);
     }
-    0
+    Ok(())
 }
 
 // Document 01's call 5: a frame of null slots on top.
+#[tactic(auto, using(crate::proofs::Laws::push_small))]
 pub fn push_in(
     made: u32,
     standing: &mut u32,
@@ -44,11 +49,10 @@ pub fn push_in(
     ensures { InPlace (push size) (λ s. with_made made (with_standing standing.old (with_widths widths.old (with_slots slots.old s)))) heap.now result (λ s. with_standing standing.new (with_widths widths.new (with_slots slots.new s))) heap.now }
 {
     let n = *standing;
-    let g = push_refusal(made, heap.len(), n, size);
-    if g != 0 {
-        return checks::refused(g);
+    if let Err(r) = push_refusal(made, heap.len(), n, size) {
+        return checks::refuses(r);
     }
-    frames::put_width(widths, n, (size % 256) as u8);
+    cells::put(widths, n as usize, (size % 256) as u8);
     frames::null_frame(slots, n);
     let more = n + 1;
     *standing = more;
@@ -56,38 +60,26 @@ pub fn push_in(
 }
 
 // The shares once the top frame goes: if the frame then on top was counted, its pointers leave them, by that filler.
-fn uncount_top<'a>(
-    standing: u32,
-    counted: u32,
-    widths: &'a [u8],
-    slots: &'a [u32],
-    owners: &'a [u8],
-    shares: &mut [u32; 256],
-    filler: u32,
-)
-    ensures { shares.new ≡ leavings filler shares.old (pick (uncounts_in standing counted) (targets_in widths.now slots.now owners.now (top_in standing - 1)) []) }
+#[tactic(auto, unfolding(regions::specs::Laws::Steps::steps))]
+fn uncount_top(frames: &FramesIn, counted: u32, owners: &[u8], shares: &mut [u32; 256], filler: u32)
+    ensures { shares.new ≡ leavings filler shares.old (pick (uncounts_in frames.now.standing counted) (targets_in frames.now.widths.now frames.now.slots.now owners.now (top_in frames.now.standing - 1)) []) }
 {
-    if frames::uncounts(standing, counted) {
-        checks::leave_frame(
-            widths,
-            slots,
-            owners,
-            shares,
-            filler,
-            cells::less(frames::top(standing)),
-        );
+    if frames::uncounts(frames.standing, counted) {
+        let next = frames.top().saturating_sub(1);
+        checks::step_slots(frames, owners, shares, Way::Out, filler, next);
     }
 }
 
-// 21 and 23, then 6.
-fn drop_refusal(made: u32, n: usize, filler: u32, standing: u32) -> u32
-    ensures { result ≡ first_refusal (reason (filler_tests made n filler)) (reason (drop_tests standing)) }
+// 21 and 23, then 6, for a heap of that length.
+#[tactic(auto, unfolding(crate::specs::Stack::drop_tests))]
+fn drop_refusal(made: u32, len: usize, filler: u32, standing: u32) -> Result<(), Refusal>
+    ensures { refused result ≡ first_refusal (reason (filler_tests made len filler)) (reason (drop_tests standing)) }
 {
-    let g = checks::filler_refusal(made, n, filler);
-    if g != 0 {
-        return g;
+    checks::check_filler(made, len, filler)?;
+    if standing == 0 {
+        return Err(Refusal::NoFrame);
     }
-    if standing == 0 { 6 } else { 0 }
+    Ok(())
 }
 
 // Document 01's call 6, for a filler (document 02, card 5): the top frame goes.
@@ -106,13 +98,15 @@ pub fn drop_in<'a>(
 {
     let n = *standing;
     let m = *counted;
-    let g = drop_refusal(made, heap.len(), filler, n);
-    if g != 0 {
-        return checks::refused(g);
+    if let Err(r) = drop_refusal(made, heap.len(), filler, n) {
+        return checks::refuses(r);
     }
-    let c = *shares;
-    regions::shares_shaped(c);
-    uncount_top(n, m, widths, slots, owners, shares, filler);
+    let frames = FramesIn {
+        standing: n,
+        widths,
+        slots,
+    };
+    uncount_top(&frames, m, owners, shares, filler);
     *counted = frames::counted_after(n, m);
     let below = frames::top(n);
     *standing = below;
@@ -124,18 +118,14 @@ fn hand_refusal(
     made: u32,
     n: usize,
     filler: u32,
-    standing: u32,
-    widths: &[u8],
+    frames: &FramesIn,
     slot: u32,
     beneath: u32,
-) -> u32
-    ensures { result ≡ first_refusal (reason (filler_tests made n filler)) (reason (beneath_tests made n standing widths.now slot beneath)) }
+) -> Result<(), Refusal>
+    ensures { refused result ≡ first_refusal (reason (filler_tests made n filler)) (reason (beneath_tests made n frames.now.standing frames.now.widths.now slot beneath)) }
 {
-    let first = checks::filler_refusal(made, n, filler);
-    if first != 0 {
-        return first;
-    }
-    checks::beneath_refusal(made, n, standing, widths, slot, beneath)
+    checks::check_filler(made, n, filler)?;
+    checks::check_beneath(made, n, frames, slot, beneath)
 }
 
 // Document 01's call 7, for a filler (document 02, card 5): the value goes into a slot of the frame beneath, after the top frame has gone.
@@ -156,14 +146,16 @@ pub fn hand_back_in<'a>(
 {
     let n = *standing;
     let m = *counted;
-    let g = hand_refusal(made, heap.len(), filler, n, widths, slot, beneath);
-    if g != 0 {
-        return checks::refused(g);
+    let frames = FramesIn {
+        standing: n,
+        widths,
+        slots,
+    };
+    if let Err(r) = hand_refusal(made, heap.len(), filler, &frames, slot, beneath) {
+        return checks::refuses(r);
     }
-    let v = checks::top_slot(n, slots, slot);
-    let c = *shares;
-    regions::shares_shaped(c);
-    uncount_top(n, m, widths, slots, owners, shares, filler);
+    let v = checks::slot_of_top(&frames, slot);
+    uncount_top(&frames, m, owners, shares, filler);
     *counted = frames::counted_after(n, m);
     let below = frames::top(n);
     *standing = below;

@@ -27,11 +27,11 @@ fn declares(rt: &impl Print, marks: &[u32]) {
 fn packing(rt: &impl Print, marks: &[u32], fit: u32) {
     let mut heap = [0u32; 192];
     let s = with_kind(rt, &mut heap, marks);
-    let s = does(s, &mut heap, PUSH, 1, 0, 0);
-    let s = shows(rt, s, &mut heap, fit, ALLOCATE, 0, 1, 1);
-    let s = shows(rt, s, &mut heap, 1, TOTALS, 0, 0, 0);
-    let s = shows(rt, s, &mut heap, 1, ALLOCATE, 0, 1, 1);
-    shows(rt, s, &mut heap, 1, TOTALS, 0, 0, 0);
+    let s = does(s, &mut heap, [PUSH, 1, 0, 0, 0]);
+    let s = shows(rt, s, &mut heap, fit, [ALLOCATE, 0, 1, 1, 0]);
+    let s = shows(rt, s, &mut heap, 1, [TOTALS, 0, 0, 0, 0]);
+    let s = shows(rt, s, &mut heap, 1, [ALLOCATE, 0, 1, 1, 0]);
+    shows(rt, s, &mut heap, 1, [TOTALS, 0, 0, 0, 0]);
 }
 
 // Three objects of 16 words, and one of the kind with these marks (totals shows whether it took another page).
@@ -39,84 +39,84 @@ fn remaining(rt: &impl Print, marks: &[u32]) {
     let mut heap = [0u32; 192];
     let s = with_kind(rt, &mut heap, &[0u32; 16]);
     let d = store::declare(s, &heap, marks);
-    let s = does(d.state, &mut heap, PUSH, 1, 0, 0);
-    let s = shows(rt, s, &mut heap, 3, ALLOCATE, 0, 1, 1);
-    let s = shows(rt, s, &mut heap, 1, ALLOCATE, 0, 1, 2);
-    shows(rt, s, &mut heap, 1, TOTALS, 0, 0, 0);
+    let s = does(d.state, &mut heap, [PUSH, 1, 0, 0, 0]);
+    let s = shows(rt, s, &mut heap, 3, [ALLOCATE, 0, 1, 1, 0]);
+    let s = shows(rt, s, &mut heap, 1, [ALLOCATE, 0, 1, 2, 0]);
+    shows(rt, s, &mut heap, 1, [TOTALS, 0, 0, 0, 0]);
 }
 
 // A page that is full gives 13; once the region that held it is deleted, it is there again.
 fn full(rt: &impl Print) {
     let mut heap = [0u32; 64];
     let s = with_kind(rt, &mut heap, &[0u32; 15]);
-    let s = does(s, &mut heap, PUSH, 1, 0, 0);
-    let s = does(s, &mut heap, NEW_REGION, 0, 0, 0);
-    let s = shows(rt, s, &mut heap, 4, ALLOCATE, 0, 2, 1);
-    let s = shows(rt, s, &mut heap, 1, ALLOCATE, 0, 2, 1);
-    let s = does(s, &mut heap, CLEAR, 0, 0, 0);
-    let s = shows(rt, s, &mut heap, 1, DELETE, 2, 0, 0);
-    let s = does(s, &mut heap, NEW_REGION, 0, 0, 0);
-    shows(rt, s, &mut heap, 1, ALLOCATE, 0, 3, 1);
+    let s = does(s, &mut heap, [PUSH, 1, 0, 0, 0]);
+    let s = does(s, &mut heap, [NEW_REGION, 0, 0, 0, 0]);
+    let s = shows(rt, s, &mut heap, 4, [ALLOCATE, 0, 2, 1, 0]);
+    let s = shows(rt, s, &mut heap, 1, [ALLOCATE, 0, 2, 1, 0]);
+    let s = does(s, &mut heap, [CLEAR, 0, 0, 0, 0]);
+    let s = shows(rt, s, &mut heap, 1, [DELETE, 2, 0, 0, 0]);
+    let s = does(s, &mut heap, [NEW_REGION, 0, 0, 0, 0]);
+    shows(rt, s, &mut heap, 1, [ALLOCATE, 0, 3, 1, 0]);
 }
 
 // An object's free word that leads to the object: the count stays.
 fn itself(rt: &impl Print) {
     let mut heap = [0u32; 64];
     let s = with_kind(rt, &mut heap, &[1u32]);
-    let s = does(s, &mut heap, PUSH, 1, 0, 0);
-    let s = does(s, &mut heap, NEW_REGION, 0, 0, 0);
-    let s = does(s, &mut heap, ALLOCATE, 0, 2, 1);
-    let s = shows(rt, s, &mut heap, 1, REPORT, 2, 0, 0);
-    let s = shows(rt, s, &mut heap, 1, SET_POINTER, 0, 0, 0);
-    shows(rt, s, &mut heap, 1, REPORT, 2, 0, 0);
+    let s = does(s, &mut heap, [PUSH, 1, 0, 0, 0]);
+    let s = does(s, &mut heap, [NEW_REGION, 0, 0, 0, 0]);
+    let s = does(s, &mut heap, [ALLOCATE, 0, 2, 1, 0]);
+    let s = shows(rt, s, &mut heap, 1, [REPORT, 2, 0, 0, 0]);
+    let s = shows(rt, s, &mut heap, 1, [SET_POINTER, 0, 0, 0, 0]);
+    shows(rt, s, &mut heap, 1, [REPORT, 2, 0, 0, 0]);
 }
 
 // A word marked 3 that leads into the region above: the count there stays.
 fn above(rt: &impl Print) {
     let mut heap = [0u32; 128];
     let s = with_kind(rt, &mut heap, &[3u32]);
-    let s = does(s, &mut heap, PUSH, 2, 0, 0);
-    let s = shows(rt, s, &mut heap, 1, SUBREGION, 1, 0, 0);
-    let s = does(s, &mut heap, ALLOCATE, 0, 1, 1);
-    let s = does(s, &mut heap, ALLOCATE, 1, 2, 1);
-    let s = shows(rt, s, &mut heap, 1, REPORT, 1, 0, 0);
-    let s = shows(rt, s, &mut heap, 1, SET_POINTER, 1, 0, 0);
-    shows(rt, s, &mut heap, 1, REPORT, 1, 0, 0);
+    let s = does(s, &mut heap, [PUSH, 2, 0, 0, 0]);
+    let s = shows(rt, s, &mut heap, 1, [SUBREGION, 1, 0, 0, 0]);
+    let s = does(s, &mut heap, [ALLOCATE, 0, 1, 1, 0]);
+    let s = does(s, &mut heap, [ALLOCATE, 1, 2, 1, 0]);
+    let s = shows(rt, s, &mut heap, 1, [REPORT, 1, 0, 0, 0]);
+    let s = shows(rt, s, &mut heap, 1, [SET_POINTER, 1, 0, 0, 0]);
+    shows(rt, s, &mut heap, 1, [REPORT, 1, 0, 0, 0]);
 }
 
 // A frame of 9 slots gives 8, one above 32 frames 7; a 64th live region is made, a 65th gives 4.
 fn limits(rt: &impl Print) {
     let mut heap = [0u32; 64];
     let s = made(rt, &mut heap);
-    let s = shows(rt, s, &mut heap, 1, PUSH, 9, 0, 0);
-    let s = shows(rt, s, &mut heap, 32, PUSH, 1, 0, 0);
-    let s = shows(rt, s, &mut heap, 1, PUSH, 1, 0, 0);
-    let s = shows(rt, s, &mut heap, 63, NEW_REGION, 0, 0, 0);
-    shows(rt, s, &mut heap, 1, NEW_REGION, 0, 0, 0);
+    let s = shows(rt, s, &mut heap, 1, [PUSH, 9, 0, 0, 0]);
+    let s = shows(rt, s, &mut heap, 32, [PUSH, 1, 0, 0, 0]);
+    let s = shows(rt, s, &mut heap, 1, [PUSH, 1, 0, 0, 0]);
+    let s = shows(rt, s, &mut heap, 63, [NEW_REGION, 0, 0, 0, 0]);
+    shows(rt, s, &mut heap, 1, [NEW_REGION, 0, 0, 0, 0]);
 }
 
 // A subregion and an outside pointer at once: delete gives 18.
 fn both(rt: &impl Print) {
     let mut heap = [0u32; 64];
     let s = with_kind(rt, &mut heap, &[0u32]);
-    let s = does(s, &mut heap, PUSH, 1, 0, 0);
-    let s = does(s, &mut heap, NEW_REGION, 0, 0, 0);
-    let s = shows(rt, s, &mut heap, 1, SUBREGION, 2, 0, 0);
-    let s = shows(rt, s, &mut heap, 1, ALLOCATE, 0, 2, 1);
-    shows(rt, s, &mut heap, 1, DELETE, 2, 0, 0);
+    let s = does(s, &mut heap, [PUSH, 1, 0, 0, 0]);
+    let s = does(s, &mut heap, [NEW_REGION, 0, 0, 0, 0]);
+    let s = shows(rt, s, &mut heap, 1, [SUBREGION, 2, 0, 0, 0]);
+    let s = shows(rt, s, &mut heap, 1, [ALLOCATE, 0, 2, 1, 0]);
+    shows(rt, s, &mut heap, 1, [DELETE, 2, 0, 0, 0]);
 }
 
 // Delete with three frames makes m 2, and a drop then makes it 1 (the last value of totals). Audit, asked last, gives 1.
 fn mark(rt: &impl Print) {
     let mut heap = [0u32; 64];
     let s = made(rt, &mut heap);
-    let s = shows(rt, s, &mut heap, 3, PUSH, 1, 0, 0);
-    let s = does(s, &mut heap, NEW_REGION, 0, 0, 0);
-    let s = shows(rt, s, &mut heap, 1, DELETE, 2, 0, 0);
-    let s = shows(rt, s, &mut heap, 1, TOTALS, 0, 0, 0);
-    let s = shows(rt, s, &mut heap, 1, DROP, 0, 0, 0);
-    let s = shows(rt, s, &mut heap, 1, TOTALS, 0, 0, 0);
-    shows(rt, s, &mut heap, 1, AUDIT, 0, 0, 0);
+    let s = shows(rt, s, &mut heap, 3, [PUSH, 1, 0, 0, 0]);
+    let s = does(s, &mut heap, [NEW_REGION, 0, 0, 0, 0]);
+    let s = shows(rt, s, &mut heap, 1, [DELETE, 2, 0, 0, 0]);
+    let s = shows(rt, s, &mut heap, 1, [TOTALS, 0, 0, 0, 0]);
+    let s = shows(rt, s, &mut heap, 1, [DROP, 0, 0, 0, 0]);
+    let s = shows(rt, s, &mut heap, 1, [TOTALS, 0, 0, 0, 0]);
+    shows(rt, s, &mut heap, 1, [AUDIT, 0, 0, 0, 0]);
 }
 
 fn main(rt: HostRuntime) {

@@ -5,11 +5,13 @@ ghost use Rattle.outcomes.specs.Outcome.{store};
 ghost use Rattle.lent.specs.Lent.{state_of};
 ghost use Rattle.dispatch.specs.Dispatch.{Dispatched};
 
+use refusals::Refusal;
 use state::Reply;
 
 // The call numbered `number`, on the state lent, as document 01 numbers its calls, 24 for delete_all and 25 for locate, with its arguments from the left; what it does not take is ignored.
 // The list is declare's marks or delete_all's names. The filler of drop, hand_back, set_pointer, delete and delete_all is the argument after document 01's: a, c, d, b, and a beside
 // delete_all's list. A number that is no call's is answered 24. View's part is had from `view_in`.
+// No enum of calls: the number is what who calls this gives (README).
 pub fn call_in(
     standing: &mut u32,
     counted: &mut u32,
@@ -99,6 +101,6 @@ pub fn call_in(
             shares, owners, taken, heap, list, a,
         ),
         25 => calls_about::locate_in(*made, *standing, widths, slots, heap, a),
-        _ => checks::refused(24),
+        _ => checks::refuses(Refusal::NoCall),
     }
 }

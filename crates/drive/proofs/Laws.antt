@@ -2,9 +2,9 @@
 -- Assumes nothing.
 use mathlib.Core.Path.{◌≡◌, sym, ap, subst, ◌∙◌}
 use mathlib.Core.List.{List, ◌++◌}
-use Prim.Native.Nat.{ℕ, ◌+◌, ◌-◌, ◌≤◌}
+use Prim.Native.Nat.{ℕ, ◌+◌, ◌-◌}
 use lib.ListN.{length, take, drop, length-drop}
-use lib.Seq.{take-add, take-length, take_all}
+use lib.Seq.{take-add, take-length}
 use Rattle.feed.specs.Scripted.{Talk, Scripted}
 use Rattle.feed.specs.Laws.Cuts.{scripted_both}
 
@@ -15,6 +15,3 @@ pub fed_more : (t u v : Talk) (chunk : List ℕ) (from at : ℕ) (o p : List ℕ
     → Scripted t (take (from + at) chunk) (o ++ p) v
 fed_more t u v chunk from at o p a b =
     subst (λ x. Scripted t x (o ++ p) v) (sym (take-add from at chunk ∙ ap (λ y. take from chunk ++ take at y) (sym (rest chunk from)))) (scripted_both a b)
-
-pub fed_all : (t u : Talk) (chunk : List ℕ) (from : ℕ) (o : List ℕ) → length chunk ≤ from → Scripted t (take from chunk) o u → Scripted t chunk o u
-fed_all t u chunk from o h a = subst (λ x. Scripted t x o u) (take_all from chunk h) a

@@ -1,18 +1,14 @@
 // Runs a script from standard input on a store, and answers each line as soon as it is whole.
 #![tactic(auto)]
 
-ghost use Rattle.std.specs.Prelude.{◌≡◌, true, List, ℕ, ◌≤◌, length};
+ghost use Rattle.std.specs.Prelude.{◌≡◌, List, ℕ, ◌≤◌, IfOk, length};
 ghost use Rattle.feed.specs.Scripted.{Scripted, talk_of};
 
 use feed::Session;
-use std::io::{Print, Read};
+use std::io::{self, Print, Read};
 
-// A session after a chunk, and whether all answers could be written.
-#[derive(Drop)]
-struct After {
-    session: Session,
-    written: bool,
-}
+// How often there is something to read, at most: no script comes to its end.
+const READS: u64 = 9223372036854775808;
 
 // Feeds all of a chunk to a session, and writes the answers; no more is fed where a write fails.
 fn answered(
@@ -22,31 +18,22 @@ fn answered(
     line: &mut [u8],
     chunk: &[u8],
     out: &mut [u8],
-) -> After
+) -> io::Result<Session>
     requires { (length memory.old ≡ 16448) × (length line.old ≡ 4100) × (1024 ≤ length out.old) }
-    ensures { result.written ≡ true → (o : List ℕ) × Scripted (talk_of s line.old memory.old) chunk.now o (talk_of result.session line.new memory.new) }
+    ensures { IfOk result (λ t. (o : List ℕ) × Scripted (talk_of s line.old memory.old) chunk.now o (talk_of t line.new memory.new)) }
 {
     let mut t = s;
     let mut from: usize = 0;
+    // No `for`: how far a chunk gets is what feed gives.
     while from < chunk.len() {
-        let u = feed::feed(t, memory, line, &chunk[from..], out);
-        if !lines::flush(rt, out, u.used) {
-            return After {
-                session: u,
-                written: false,
-            };
-        }
-        let at = u.at;
-        from += at;
-        t = u;
+        t = feed::feed(t, memory, line, &chunk[from..], out);
+        rt.write_all(&out[..t.used])?;
+        from += t.at;
     }
-    After {
-        session: t,
-        written: true,
-    }
+    Ok(t)
 }
 
-// Reads what there is, and answers it, until the input ends; the newline that the last line may lack comes then. Where a read or a write fails, nothing more is fed: a line that was cut is no line. So many reads that no script comes to their end.
+// Reads what there is, and answers it, until the input ends; the newline that the last line may lack comes then. Where a read or a write fails, nothing more is fed: a line that was cut is no line.
 fn session(
     rt: &impl Print,
     input: &mut impl Read,
@@ -54,28 +41,19 @@ fn session(
     line: &mut [u8],
     text: &mut [u8],
     out: &mut [u8],
-)
+) -> io::Result<()>
     requires { (length memory.old ≡ 16448) × (length line.old ≡ 4100) × (1024 ≤ length out.old) }
 {
     let mut s = feed::begin();
-    let mut reads: u64 = 9223372036854775808;
-    while 0 < reads {
-        reads -= 1;
-        let n = match input.read(text) {
-            Ok(n) => n,
-            Err(_) => return,
-        };
+    for _ in 0..READS {
+        let n = input.read(text)?;
         if n == 0 {
             break;
         }
-        let a = answered(rt, s, memory, line, &text[0..n], out);
-        if !a.written {
-            return;
-        }
-        let t = a.session;
-        s = t;
+        s = answered(rt, s, memory, line, &text[..n], out)?;
     }
-    answered(rt, s, memory, line, b"\n", out);
+    answered(rt, s, memory, line, b"\n", out)?;
+    Ok(())
 }
 
 fn main(rt: HostRuntime) {
@@ -84,5 +62,6 @@ fn main(rt: HostRuntime) {
     let mut text = [0u8; 65536];
     let mut out = [0u8; 65536];
     let mut input = rt.stdin();
-    session(&rt, &mut input, &mut memory, &mut line, &mut text, &mut out);
+    // The exit status is 0 also where a read or a write failed (README, Scripts).
+    let _ = session(&rt, &mut input, &mut memory, &mut line, &mut text, &mut out);
 }

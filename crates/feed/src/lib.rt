@@ -4,11 +4,8 @@
 ghost use Rattle.std.specs.Prelude.{◌≡◌, List, ℕ, length, take};
 ghost use Rattle.feed.specs.Scripted.{Scripted, start, talk_of, Fed};
 
-use frames::Frames;
-use kinds::Kinds;
-use pages::Pages;
-use regions::Regions;
-use state::{Reply, State};
+use lines::Buffer;
+use state::State;
 use tally::Tally;
 
 // A session: the state of its store, how many words its heap has, what it has counted, and how many bytes are kept of the line that has not ended. Of the chunk fed last, how far it got, and how many bytes its answers took.
@@ -57,30 +54,18 @@ pub fn feed(
     ensures scripted { length memory.old ≡ 16448 → length line.old ≡ 4100 → Scripted (talk_of s line.old memory.old) (take result.at chunk.now) (take result.used out.new) (talk_of result line.new memory.new) }
     ensures fed { Fed chunk.now out.old result.at result.used }
 {
-    let mut standing = s.state.frames.standing;
-    let mut counted = s.state.frames.counted;
-    let mut declared = s.state.kinds.declared;
-    let mut given = s.state.regions.given;
-    let mut made = s.state.pages.made;
-    let mut widths = s.state.frames.widths;
-    let mut slots = s.state.frames.slots;
-    let mut sizes = s.state.kinds.sizes;
-    let mut marks = s.state.kinds.marks;
-    let mut names = s.state.regions.names;
-    let mut parents = s.state.regions.parents;
-    let mut levels = s.state.regions.levels;
-    let mut shares = s.state.regions.shares;
-    let mut newest = s.state.regions.newest;
-    let mut oldest = s.state.regions.oldest;
-    let mut owners = s.state.pages.owners;
-    let mut taken = s.state.pages.taken;
+    let mut state = s.state;
     let mut c = s.tally;
     let mut words = s.words;
     let mut held = s.held;
     let mut at: usize = 0;
-    let mut used: usize = 0;
+    let mut answers = Buffer {
+        bytes: out,
+        used: 0,
+    };
+    // No `for`: a line's end is where the next one begins.
     while at < chunk.len() {
-        if !tally::room(out.len(), used) {
+        if !tally::room(&answers) {
             break;
         }
         let end = script::line_end(chunk, at);
@@ -88,69 +73,22 @@ pub fn feed(
         at = end;
         if end < chunk.len() {
             at = end + 1;
-            let k = cells::within(held, line.len());
+            let k = held.min(line.len());
             let l = scanner::heard(&line[0..k], c.first, c.stage);
             let a = l.args;
-            let d = actions::acted(
-                &mut standing,
-                &mut counted,
-                &mut declared,
-                &mut given,
-                &mut made,
-                &mut widths,
-                &mut slots,
-                &mut sizes,
-                &mut marks,
-                &mut names,
-                &mut parents,
-                &mut levels,
-                &mut shares,
-                &mut newest,
-                &mut oldest,
-                &mut owners,
-                &mut taken,
-                memory,
-                words,
-                l,
-            );
-            used = tally::add_answer(out, used, c, l.call, a[0], d);
+            let d = actions::acted(&mut state, memory, words, l);
+            tally::add_answer(&mut answers, c, l.call, a[0], d);
             c = tally::tallied(c, l.call, d.refusal);
             words = numbers::words_after(l.call, a[0], d.refusal, words);
             held = 0;
         }
     }
     Session {
-        state: State {
-            frames: Frames {
-                standing: standing,
-                counted: counted,
-                widths: widths,
-                slots: slots,
-            },
-            kinds: Kinds {
-                declared: declared,
-                sizes: sizes,
-                marks: marks,
-            },
-            regions: Regions {
-                given: given,
-                names: names,
-                parents: parents,
-                levels: levels,
-                shares: shares,
-                newest: newest,
-                oldest: oldest,
-            },
-            pages: Pages {
-                made: made,
-                owners: owners,
-                taken: taken,
-            },
-        },
+        state,
         words,
         tally: c,
         held,
         at,
-        used,
+        used: answers.used,
     }
 }

@@ -14,34 +14,56 @@ pub struct Frames {
     pub slots: [u32; 256],
 }
 
+// What is lent of the frames, for the tests and looks that only read them.
+#[derive(Drop)]
+pub struct FramesIn<'a> {
+    pub standing: u32,
+    pub widths: &'a [u8],
+    pub slots: &'a [u32],
+}
+
+impl<'a> FramesIn<'a> {
+    pub fn frame_count(&self) -> u32
+        ensures { result ≡ frame_count_in self.now.standing }
+    {
+        frame_count(self.standing)
+    }
+
+    pub fn top(&self) -> u32
+        ensures { result ≡ top_in self.now.standing }
+    {
+        top(self.standing)
+    }
+
+    pub fn width_at(&self, i: u32) -> u32
+        ensures { result ≡ width_in self.now.widths.now i }
+    {
+        cells::get(self.widths, i as usize)
+    }
+
+    pub fn slot_at(&self, i: u32, s: u32) -> u32
+        ensures { result ≡ slot_in self.now.slots.now i s }
+    {
+        cells::get(self.slots, 8 * (i as usize) + (s as usize))
+    }
+}
+
 pub fn frame_count(standing: u32) -> u32
     ensures { result ≡ frame_count_in standing }
 {
-    cells::least(standing, 32)
+    standing.min(32)
 }
 
 pub fn top(standing: u32) -> u32
     ensures { result ≡ top_in standing }
 {
-    cells::less(standing)
-}
-
-pub fn width_at(widths: &[u8], i: u32) -> u32
-    ensures { result ≡ width_in widths.now i }
-{
-    cells::byte(widths, i as usize)
-}
-
-pub fn slot_at(slots: &[u32], i: u32, s: u32) -> u32
-    ensures { result ≡ slot_in slots.now i s }
-{
-    cells::word(slots, 8 * (i as usize) + (s as usize))
+    standing.saturating_sub(1)
 }
 
 pub fn put_slot(slots: &mut [u32; 256], i: u32, s: u32, v: u32)
     ensures { slots.new ≡ set slots.old (8 * i + s) v }
 {
-    cells::store(slots, 8 * (i as usize) + (s as usize), v);
+    cells::put(slots, 8 * (i as usize) + (s as usize), v);
 }
 
 // All eight places of frame i are null.
@@ -51,18 +73,12 @@ pub fn null_frame(slots: &mut [u32; 256], i: u32)
     cells::zero(slots, 8 * (i as usize), 8);
 }
 
-pub fn put_width(widths: &mut [u8; 32], i: u32, w: u8)
-    ensures { widths.new ≡ set widths.old i w }
-{
-    cells::store_byte(widths, i as usize, w);
-}
-
 // Whether the frame on top once a frame has gone was counted.
 pub fn uncounts(standing: u32, counted: u32) -> bool
     ensures { result ≡ uncounts_in standing counted }
 {
     let t = top(standing);
-    if 0 < t { t <= counted } else { false }
+    0 < t && t <= counted
 }
 
 // m once a frame has gone.
@@ -70,7 +86,7 @@ pub fn counted_after(standing: u32, counted: u32) -> u32
     ensures { result ≡ counted_after standing counted }
 {
     if uncounts(standing, counted) {
-        return cells::less(counted);
+        return counted.saturating_sub(1);
     }
     counted
 }

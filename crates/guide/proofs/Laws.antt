@@ -1,6 +1,6 @@
 -- The line of a number among the lines of a text, from a place on; and the reasons as lines.
 -- Assumes nothing.
-use mathlib.Core.Path.{◌≡◌, ◌∙◌}
+use mathlib.Core.Path.{◌≡◌, sym, ◌∙◌}
 use mathlib.Core.List.{List, [], map}
 use Prim.Native.Nat.{ℕ, ◌+◌, ◌<◌, ◌≤◌, min}
 use native.Mathlib.Numerals.{add-one}
@@ -34,6 +34,15 @@ module _ (text : List ℕ) (at : ℕ) where
         (ltb at (length text))
         (λ q. rw (lines_at text at line (ltb-true at (length text) q) k))
         (λ q. k.is ∙ rw (drop_of_length-le text {i = at} (ltb-false at (length text) q)))
+
+-- the line at a place is passed, if there is one
+pub nth_on : (text : List ℕ) (at : ℕ) (line : List ℕ) → LineAt text at line → (to m n : ℕ) → to ≡ at + length line + 1 → m ≡ n + 1
+    → get_or (lines_of (drop to text)) n [] ≡ get_or (lines_of (drop at text)) m []
+nth_on text at line k to m n e f =
+    by_test
+    (ltb at (length text))
+    (λ q. rw e (nth_next text at line k m n (ltb-true at (length text) q) f))
+    (λ q. let past : length text ≤ at = ltb-false at (length text) q in nth_past text to n (omega arith) ∙ sym (nth_past text at m past))
 
 -- line m of the reasons, where m is n or else the last
 pub reason_is : (r : List ℕ) (m n : ℕ) → m ≡ min n 25 → r ≡ get_or (map bytes reasons) m [] → r ≡ bytes (get_or reasons (min n 25) "")

@@ -7,77 +7,54 @@ ghost use Rattle.outcomes.specs.Store.{led_among_in};
 ghost use Rattle.lists.specs.Ticks.{tick_at};
 ghost use Rattle.joint_parts.specs.Joint.{still_counted, names_left};
 
-// Whether entry e has a live region that is no member, right below one that is.
-fn stray<'a>(names: &'a [u32], parents: &'a [u8], members: &'a [u8], e: u32) -> bool
+use frames::FramesIn;
+use members::Members;
+
+// Whether entry e has no live region, or one that is right below no member, or a member.
+#[tactic(auto, unfolding(regions::specs::Regions::follows_in))]
+fn follows<'a>(names: &'a [u32], parents: &'a [u8], members: &'a Members, e: u32) -> bool
     requires { e < 64 }
-    ensures { result ≡ not (follows_in names.now parents.now (tick_at members.now) e) }
+    ensures { result ≡ follows_in names.now parents.now (tick_at members.now.ticks) e }
 {
-    if regions::name_at(names, e) == 0 {
-        return false;
-    }
-    if members::is_member(members, e + 1) {
-        return false;
-    }
-    members::is_member(members, regions::parent_at(parents, e))
+    regions::name_at(names, e) == 0
+        || !members.is_member(regions::parent_at(parents, e))
+        || members.is_member(e + 1)
 }
 
 // Whether every live region right below a member is a member.
-pub fn closed<'a>(names: &'a [u32], parents: &'a [u8], members: &'a [u8]) -> bool
-    ensures { result ≡ closed_in names.now parents.now (tick_at members.now) }
+pub fn closed<'a>(names: &'a [u32], parents: &'a [u8], members: &'a Members) -> bool
+    ensures { result ≡ closed_in names.now parents.now (tick_at members.now.ticks) }
 {
-    let mut i: u32 = 0;
-    while i < 64 {
-        if stray(names, parents, members, i) {
-            return false;
-        }
-        i += 1;
-    }
-    true
+    (0..64).all(|e| follows(names, parents, members, e))
 }
 
 // Whether some member's count is not 0.
-fn still_counted<'a>(shares: &'a [u32], members: &'a [u8]) -> bool
-    ensures { result ≡ still_counted shares.now (tick_at members.now) }
+fn still_counted<'a>(shares: &'a [u32], members: &'a Members) -> bool
+    ensures { result ≡ still_counted shares.now (tick_at members.now.ticks) }
 {
-    let mut i: u32 = 0;
-    while i < 64 {
-        if regions::count_at(shares, i) != 0 {
-            if members::is_member(members, i + 1) {
-                return true;
-            }
-        }
-        i += 1;
-    }
-    false
+    (0..64).any(|i| members.is_member(i + 1) && regions::count_at(shares, i) != 0)
 }
 
 // 19, asked once the scan has removed the members' references from the counts: whether a member is counted still, or a slot of an uncounted frame leads into one.
-pub fn pointed_at<'a>(
-    standing: u32,
+pub fn pointed_at(
+    frames: &FramesIn,
     counted: u32,
-    widths: &'a [u8],
-    slots: &'a [u32],
-    owners: &'a [u8],
-    shares: &'a [u32],
-    members: &'a [u8],
+    owners: &[u8],
+    shares: &[u32],
+    members: &Members,
 ) -> bool
-    ensures { result ≡ (still_counted shares.now (tick_at members.now) || led_among_in standing counted widths.now slots.now owners.now (tick_at members.now)) }
+    ensures { result ≡ (still_counted shares.now (tick_at members.now.ticks) || led_among_in frames.now.standing counted frames.now.widths.now frames.now.slots.now owners.now (tick_at members.now.ticks)) }
 {
-    if still_counted(shares, members) {
-        return true;
-    }
-    delete_parts::look(standing, counted, widths, slots, owners, members)
+    still_counted(shares, members) || delete_parts::look(frames, counted, owners, members)
 }
 
 // The members' entries are given up.
-pub fn give_up(names: &mut [u32; 64], members: &[u8])
-    ensures { names.new ≡ names_left names.old (tick_at members.now) 64 }
+pub fn give_up(names: &mut [u32; 64], members: &Members)
+    ensures { names.new ≡ names_left names.old (tick_at members.now.ticks) 64 }
 {
-    let mut i: u32 = 0;
-    while i < 64 {
-        if members::is_member(members, i + 1) {
-            regions::put_word(names, i, 0);
+    for i in 0..64 {
+        if members.is_member(i + 1) {
+            cells::put(names, i as usize, 0);
         }
-        i += 1;
     }
 }

@@ -1,7 +1,7 @@
 // The kinds declared, a part of the state held by value. The functions take what they read: numbers, and arrays lent.
 #![tactic(auto)]
 
-ghost use Rattle.std.specs.Prelude.{◌≡◌, map, ◌%◌, eqb, ltb, set};
+ghost use Rattle.std.specs.Prelude.{◌≡◌, map, ◌%◌, eqb, ltb};
 ghost use Rattle.std.proofs.lemmas.List.Edits.{sets};
 ghost use Rattle.lists.specs.Lists.{any_of, every, up_to};
 ghost use Rattle.kinds.specs.Kinds.{kind_count_in, size_in, mark_in, wrong_marks};
@@ -14,39 +14,75 @@ pub struct Kinds {
     pub marks: [u8; 256],
 }
 
+// What is lent of the kinds, for the tests and walks that read them.
+#[derive(Drop)]
+pub struct KindsIn<'a> {
+    pub declared: u32,
+    pub sizes: &'a [u8],
+    pub marks: &'a [u8],
+}
+
+impl<'a> KindsIn<'a> {
+    pub fn kind_count(&self) -> u32
+        ensures { result ≡ kind_count_in self.now.declared }
+    {
+        kind_count(self.declared)
+    }
+
+    pub fn size_of(&self, n: u32) -> u32
+        ensures { result ≡ size_in self.now.declared self.now.sizes.now n }
+    {
+        size_of(self.declared, self.sizes, n)
+    }
+
+    pub fn mark_at(&self, n: u32, w: u32) -> u32
+        ensures { result ≡ mark_in self.now.marks.now n w }
+    {
+        cells::get(
+            self.marks,
+            16 * (n.saturating_sub(1) as usize) + (w as usize),
+        )
+    }
+
+    // Whether the first `size` marks of kind n are 0.
+    pub fn all_data(&self, n: u32, size: u32) -> bool
+        ensures { result ≡ every (λ w. eqb (mark_in self.now.marks.now n w) 0) (up_to size) }
+    {
+        for w in 0..size {
+            if self.mark_at(n, w) != 0 {
+                return false;
+            }
+        }
+        true
+    }
+}
+
 pub fn kind_count(declared: u32) -> u32
     ensures { result ≡ kind_count_in declared }
 {
-    cells::least(declared, 16)
+    declared.min(16)
 }
 
+// 0 for no kind, and no Option: `size_in` is what every object's size is said by.
 pub fn size_of(declared: u32, sizes: &[u8], n: u32) -> u32
     ensures { result ≡ size_in declared sizes.now n }
 {
     if 0 < n {
         if n <= kind_count(declared) {
-            return cells::least(cells::byte(sizes, (n - 1) as usize), 16);
+            return cells::get(sizes, (n - 1) as usize).min(16);
         }
     }
     0
-}
-
-pub fn mark_at(marks: &[u8], n: u32, w: u32) -> u32
-    ensures { result ≡ mark_in marks.now n w }
-{
-    cells::byte(marks, 16 * (cells::less(n) as usize) + (w as usize))
 }
 
 // Whether a mark is above 4.
 fn above_four(ms: &[u32]) -> bool
     ensures { result ≡ any_of (ltb 4) ms.now }
 {
-    let mut i = 0;
-    while i < ms.len() {
-        if 4 < ms[i] {
+    for m in ms {
+        if 4 < *m {
             return true;
         }
-        i += 1;
     }
     false
 }
@@ -67,30 +103,7 @@ pub fn marks_wrong(ms: &[u32]) -> bool
 pub fn put_marks(marks: &mut [u8; 256], at: u32, ms: &[u32])
     ensures { marks.new ≡ sets marks.old at (map (λ m. m % 256) ms.now) }
 {
-    let mut i = 0;
-    while i < ms.len() {
-        cells::store_byte(marks, (at as usize) + i, (ms[i] % 256) as u8);
-        i += 1;
+    for (i, m) in ms.iter().enumerate() {
+        cells::put(marks, (at as usize) + i, (*m % 256) as u8);
     }
-}
-
-pub fn put_size(sizes: &mut [u8; 16], i: u32, n: u8)
-    ensures { sizes.new ≡ set sizes.old i n }
-{
-    cells::store_byte(sizes, i as usize, n);
-}
-
-// Whether the first `size` marks of kind n are 0.
-pub fn all_data(marks: &[u8], n: u32, size: u32) -> bool
-    ensures { result ≡ every (λ w. eqb (mark_in marks.now n w) 0) (up_to size) }
-{
-    let at = 16 * (cells::less(n) as usize);
-    let mut w: u32 = 0;
-    while w < size {
-        if cells::byte(marks, at + (w as usize)) != 0 {
-            return false;
-        }
-        w += 1;
-    }
-    true
 }

@@ -1,14 +1,11 @@
--- The digits that `io::decimal` gives are `decimal`, and bytes laid over a buffer are added to it.
-use mathlib.Core.Path.{◌≡◌, refl}
-use mathlib.Core.List.{List, ◌++◌, append_assoc}
+-- The digits that `io::decimal` gives are `decimal`.
+use mathlib.Core.Path.{◌≡◌}
 use Prim.Native.Nat.{ℕ, zero, suc, ◌+◌, ◌-◌, ◌*◌, ◌/◌, ◌%◌, ◌^◌, ◌≤◌, ◌<◌}
 use native.Mathlib.Nat.{pow-suc, one-le-pow}
 use native.Mathlib.Omega.{arith}
-use lib.ListN.{length, take, length-append}
-use lib.Seq.{take_at, take-length, length-take-le}
 use borrow.Author.Tests.{lt-ltb, le-ltb}
 use Rattle.io.specs.Digits.{hex_digit_ascii, last_digits, IsDigitCount}
-use Rattle.lines.specs.Lines.{numeral, Added}
+use Rattle.lines.specs.Lines.{numeral}
 
 glyph_digit : (d : ℕ) → d < 10 → hex_digit_ascii d ≡ 48 + d
 glyph_digit d h = rw (lt-ltb d 10 h)
@@ -35,10 +32,3 @@ fewest (suc f) (suc (suc j)) n h w =
     let low : 10 ^ suc j ≤ n = rw d at (w.2 (omega arith)) in
     let b : n < 10 ^ suc (suc j) = w.1 in
     rw (le-ltb n 10 (omega arith), glyph_digit (n % 10) (omega arith), fewest f (suc j) (n / 10) (omega arith) (omega arith, omega arith, λ _. rw d2 (omega arith)))
-
--- bytes laid over those from `at` on: q and z are what stands after them
-pub laid : (l s y q z : List ℕ) (at : ℕ) → at ≤ length l → y ≡ take (length s) s ++ q → Added l at s (take at l ++ (y ++ z)) (at + length s)
-laid l s y q z at h e =
-    let n : length (take at l ++ s) ≡ at + length s = simp (length-append, length-take-le at l h) in
-    let x : take at l ++ ((s ++ q) ++ z) ≡ (take at l ++ s) ++ (q ++ z) = simp append_assoc in
-    record { end = λ _. refl; text = λ _. rw (e, take-length s, x) (take_at (take at l ++ s) (q ++ z) (at + length s) n) }

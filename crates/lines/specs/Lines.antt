@@ -3,6 +3,7 @@
 use Rattle.std.specs.Prelude.{◌≡◌, List, [], ◌∷◌, ◌++◌, ℕ, zero, suc, ◌+◌, ◌/◌, ◌%◌, ◌≤◌, ltb, length, take}
 use Rattle.lists.specs.Lists.{pick}
 use Rattle.state.specs.declared.Reply.{Reply}
+use Rattle.lines.specs.declared.Buffer.{Buffer}
 
 -- n in decimal, where it has at most k digits
 unfoldable pub numeral : ℕ → ℕ → List ℕ
@@ -33,3 +34,9 @@ summary_of calls accepted refused bad = (61 ∷ []) ++ column calls ++ column ac
 pub record Added (l : List ℕ) (at : ℕ) (s : List ℕ) (m : List ℕ) (r : ℕ) : Type 0 where
   pub end : at + length s ≤ length l → r ≡ at + length s
   pub text : at + length s ≤ length l → take r m ≡ take at l ++ s
+
+-- s is added to a buffer, where it fits; the buffer's bytes are the ones that were lent, and as many
+pub record Appends (b : Buffer) (s : List ℕ) (c : Buffer) : Type 0 where
+  pub added : Added b.bytes.now b.used s c.bytes.now c.used
+  pub as_long : length c.bytes.now ≡ length b.bytes.now
+  pub same_reference : c.bytes.ghost_name ≡ b.bytes.ghost_name

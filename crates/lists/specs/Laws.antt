@@ -11,3 +11,4 @@ pub mod Zeroed
 pub mod Kept
 pub mod Every
 pub mod Order
+pub mod Chains

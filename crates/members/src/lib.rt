@@ -1,78 +1,82 @@
 // The regions that a list names, known together: ticks by tag, 1 for a member. What is wrong with the list itself, and with its names one by one.
 #![tactic(auto)]
 
-ghost use Rattle.std.specs.Prelude.{◌≡◌, map, drop};
-ghost use Rattle.lists.specs.Lists.{among};
+ghost use Rattle.std.specs.Prelude.{◌≡◌, map, set, replicate};
 ghost use Rattle.model.specs.Calls.{reason, wrong_names, name_tests};
 ghost use Rattle.lists.specs.Ticks.{tick_at, ticked};
+ghost use Rattle.refusals.specs.Refusals.{refused};
 ghost use Rattle.members.specs.Members.{tag_by, dead_by, name_refusal};
 
-// Whether the region with that tag is a member.
-pub fn is_member(members: &[u8], t: u32) -> bool
-    ensures { result ≡ tick_at members.now t }
-{
-    cells::byte(members, t as usize) == 1
+use refusals::Refusal;
+
+// A byte for each number that a page's owner can be, so that no test of an owner is needed before it is looked up.
+#[derive(Clone, Copy)]
+pub struct Members {
+    pub ticks: [u8; 256],
 }
 
-// Whether n stands in the list from place i on.
-fn stands_from(list: &[u32], i: usize, n: u32) -> bool
-    ensures { result ≡ among n (drop i list.now) }
-{
-    let mut k = i;
-    while k < list.len() {
-        if list[k] == n {
-            return true;
-        }
-        k += 1;
+impl Members {
+    pub fn none() -> Members
+        ensures { result.ticks ≡ replicate 256 0 }
+    {
+        Members { ticks: [0; 256] }
     }
-    false
+
+    // Whether the region with that tag is a member.
+    #[tactic(auto, unfolding(lists::specs::Ticks::tick_at))]
+    pub fn is_member(&self, t: u32) -> bool
+        ensures { result ≡ tick_at self.now.ticks t }
+    {
+        cells::get(&self.ticks, t as usize) == 1
+    }
+
+    pub fn tick(&mut self, t: u32)
+        ensures { self.new.ticks ≡ set self.old.ticks t 1 }
+    {
+        cells::put(&mut self.ticks, t as usize, 1);
+    }
+
+    // Ticks the regions that the list names; a dead name has tag 65, which is no region's. Gives the first refusal that a name has, and ticks on after it.
+    pub fn tick_named<'a>(&mut self, names: &'a [u32], list: &'a [u32]) -> Result<(), Refusal>
+        ensures { (refused result ≡ reason (name_tests (dead_by names.now) list.now)) × (self.new.ticks ≡ ticked self.old.ticks (map (tag_by names.now) list.now)) }
+    {
+        let mut first = Ok(());
+        for n in list {
+            let name = *n;
+            let e = regions::entry_of(names, name);
+            first = first.and(name_refusal(e, name));
+            self.tick(e + 1);
+        }
+        first
+    }
 }
 
 // Whether the list is empty, longer than 16 or has a name twice.
+#[tactic(auto, unfolding(model::specs::Calls::wrong_names))]
 pub fn wrong_names(list: &[u32]) -> bool
     ensures { result ≡ wrong_names list.now }
 {
-    if list.len() == 0 {
+    if list.is_empty() || 16 < list.len() {
         return true;
     }
-    if 16 < list.len() {
-        return true;
-    }
-    let mut i: usize = 0;
-    while i < list.len() {
-        let n = list[i];
-        i += 1;
-        if stands_from(list, i, n) {
+    for (i, n) in list.iter().enumerate() {
+        if list[i + 1..].contains(n) {
             return true;
         }
     }
     false
 }
 
-// 2 and 3 for a name with its entry, which is 64 where no live region has it.
-fn name_refusal(e: u32, n: u32) -> u32
-    ensures { result ≡ name_refusal e n }
+// Why a region with that entry and that name may not go; the entry is 64 where no live region has the name.
+#[tactic(auto, unfolding(crate::specs::Members::name_refusal))]
+fn name_refusal(e: u32, n: u32) -> Result<(), Refusal>
+    ensures { refused result ≡ name_refusal e n }
 {
     if 64 <= e {
-        return 2;
+        return Err(Refusal::NoRegion);
     }
-    if n == 1 { 3 } else { 0 }
-}
-
-// Ticks the regions that the list names; a dead name has tag 65, which is no region's. Gives the first 2 or 3 that a name has, 0 where none has one.
-pub fn tick<'a>(names: &'a [u32], list: &'a [u32], members: &mut [u8]) -> u32
-    ensures { (result ≡ reason (name_tests (dead_by names.now) list.now)) × (members.new ≡ ticked members.old (map (tag_by names.now) list.now)) }
-{
-    let mut g: u32 = 0;
-    let mut j: usize = 0;
-    while j < list.len() {
-        let n = cells::word(list, j);
-        j += 1;
-        let e = regions::entry_of(names, n);
-        if g == 0 {
-            g = name_refusal(e, n);
-        }
-        cells::store_byte(members, (e as usize) + 1, 1);
+    if n == 1 {
+        return Err(Refusal::Permanent);
     }
-    g
+    Ok(())
 }

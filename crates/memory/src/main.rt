@@ -23,14 +23,12 @@ const WORDS: u32 = 384;
 fn alike(a: &[u32], b: &[u32], n: u32) -> u32
     ensures { result ≡ find_or (λ i. not (slice_index a.now i == slice_index b.now i)) n (up_to n) }
 {
-    let mut i: u32 = 0;
-    while i < n {
-        if cells::word(a, i as usize) != cells::word(b, i as usize) {
+    for i in 0..n {
+        if cells::get(a, i as usize) != cells::get(b, i as usize) {
             return i;
         }
-        i += 1;
     }
-    i
+    n
 }
 
 // A line for a comparison.
@@ -168,7 +166,7 @@ fn shown(
     other: u32,
     call: [u32; 5],
 ) -> State {
-    let d = called(s, heap, call[0], call[1], call[2], call[3], call[4]);
+    let d = called(s, heap, call);
     lines::line(rt, place, d.reply);
     let g = d.state.regions;
     shares_of(rt, &g.names, &g.shares, one);
@@ -188,12 +186,9 @@ fn shows(
 ) -> State {
     let mut t = s;
     let mut place = first;
-    let mut i: usize = 0;
-    while i < calls.len() {
-        let c = calls[i];
-        i += 1;
-        t = shown(rt, t, heap, place, one, other, c);
-        place = std::num::wrapping_add_u32(place, 1);
+    for call in calls {
+        t = shown(rt, t, heap, place, one, other, *call);
+        place = place.wrapping_add(1);
     }
     t
 }

@@ -1,30 +1,34 @@
 // Numbers that go with a scanned line: where its filler stands among those of its call, and how many words of a memory are the heap after it.
 #![tactic(auto)]
 
-ghost use Rattle.std.specs.Prelude.{◌≡◌, ◌*◌, eqb};
+ghost use Rattle.std.specs.Prelude.{◌≡◌, ◌*◌};
 ghost use Rattle.lists.specs.Lists.{pick};
-ghost use Rattle.numbers.specs.Numbers.{filler_place, words_after};
+ghost use Rattle.numbers.specs.Numbers.{place_number, is_place, filler_place, words_after};
 
 use script::PAGES;
 
-// The call whose filler is the first number: its arguments are its list.
+// The call whose filler is the first number, by its number in README's table: its arguments are its list.
 const DELETE_ALL: u32 = 24;
 
-// Where the filler goes among the four numbers of a call with so many arguments; 4 for a call that names none.
-pub fn filler_place(call: u32, count: u32) -> u32
-    ensures { result ≡ filler_place call count }
+// Where the filler goes among the four numbers of a call with so many arguments, where the call names one.
+pub fn filler_place(call: u32, count: u32) -> Option<u32>
+    ensures { place_number result ≡ filler_place call count }
 {
-    if script::names_filler(call) != 1 {
-        return 4;
+    if !script::names_filler(call) {
+        return None;
     }
-    if call == DELETE_ALL { 0 } else { count }
+    if call == DELETE_ALL {
+        Some(0)
+    } else {
+        Some(count)
+    }
 }
 
 // Number k that goes with a call: the argument there, or the filler.
-pub fn number_at(argument: u32, place: u32, filler: u32, k: u32) -> u32
-    ensures { result ≡ pick (eqb k place) filler argument }
+pub fn number_at(argument: u32, place: Option<u32>, filler: u32, k: u32) -> u32
+    ensures { result ≡ pick (is_place k place) filler argument }
 {
-    if k == place { filler } else { argument }
+    if place == Some(k) { filler } else { argument }
 }
 
 // The words of n pages.

@@ -1,11 +1,13 @@
 // The region entries, a part of the state held by value. The functions take what they read: numbers, and arrays lent.
+// For none a reading gives the number that the definitions and the state itself have for it, and no Option: name 0 and tag 0, entry 64 (`name_in`, `entry_in`, `unused_in`).
 #![tactic(auto)]
 
-ghost use Rattle.std.specs.Prelude.{◌≡◌, ◌+◌, ◌*◌, ◌%◌, replicate, slice_index, slice_set};
+ghost use Rattle.std.specs.Prelude.{◌≡◌, ◌+◌, ◌*◌, ◌%◌, replicate, slice_index};
 ghost use Rattle.std.proofs.lemmas.List.Edits.{sets};
 ghost use Rattle.regions.specs.Regions.{name_in, entry_in, unused_in, live_in, subregions_in, share_in, count_in};
 ghost use Rattle.regions.specs.Laws.Counts.{Shares};
-ghost use Rattle.regions.specs.Laws.Steps.{entering, leaving};
+ghost use Rattle.regions.specs.Laws.Steps.{stepped};
+ghost use Rattle.regions.specs.Ways.{by};
 
 // names: 0 for an entry not in use. parents: the entry above plus 1, 0 for none. newest: a page plus 1, 0 for none.
 // oldest: a pointer, 0 for none. shares: filler f's share of the count of entry i at 4 i + f. `given` is the last name given.
@@ -20,10 +22,52 @@ pub struct Regions {
     pub oldest: [u32; 64],
 }
 
+// What is lent of the entries, for the tests and climbs that read them.
+#[derive(Drop)]
+pub struct RegionsIn<'a> {
+    pub names: &'a [u32],
+    pub parents: &'a [u8],
+    pub levels: &'a [u8],
+}
+
+impl<'a> RegionsIn<'a> {
+    pub fn name_at(&self, i: u32) -> u32
+        ensures { result ≡ slice_index self.now.names.now i }
+    {
+        name_at(self.names, i)
+    }
+
+    // The name of the region with that tag, 0 for none.
+    pub fn name_of(&self, t: u32) -> u32
+        ensures { result ≡ name_in self.now.names.now t }
+    {
+        name_of(self.names, t)
+    }
+
+    // The entry of the live region of that name, 64 where there is none.
+    pub fn entry_of(&self, n: u32) -> u32
+        ensures { result ≡ entry_in self.now.names.now n }
+    {
+        entry_of(self.names, n)
+    }
+
+    pub fn parent_at(&self, i: u32) -> u32
+        ensures { result ≡ slice_index self.now.parents.now i }
+    {
+        parent_at(self.parents, i)
+    }
+
+    pub fn level_at(&self, i: u32) -> u32
+        ensures { result ≡ slice_index self.now.levels.now i }
+    {
+        level_at(self.levels, i)
+    }
+}
+
 pub fn name_at(names: &[u32], i: u32) -> u32
     ensures { result ≡ slice_index names.now i }
 {
-    cells::word(names, i as usize)
+    cells::get(names, i as usize)
 }
 
 // The name of the region with that tag, 0 for none.
@@ -62,7 +106,7 @@ pub fn live_count(names: &[u32]) -> u32
 pub fn parent_at(parents: &[u8], i: u32) -> u32
     ensures { result ≡ slice_index parents.now i }
 {
-    cells::byte(parents, i as usize)
+    cells::get(parents, i as usize)
 }
 
 // How many live regions are right below the one with that tag.
@@ -70,17 +114,13 @@ pub fn subregions_of<'a>(names: &'a [u32], parents: &'a [u8], t: u32) -> u32
     ensures { result ≡ subregions_in names.now parents.now t }
 {
     let mut k: u32 = 0;
-    let mut i: u32 = 0;
-    while i < 64 {
+    for i in 0..64 {
         // Both are read first, so that the compiler can take several entries at once.
         let n = name_at(names, i);
         let p = parent_at(parents, i);
-        if n != 0 {
-            if p == t {
-                k += 1;
-            }
+        if n != 0 && p == t {
+            k += 1;
         }
-        i += 1;
     }
     k
 }
@@ -88,41 +128,35 @@ pub fn subregions_of<'a>(names: &'a [u32], parents: &'a [u8], t: u32) -> u32
 pub fn level_at(levels: &[u8], i: u32) -> u32
     ensures { result ≡ slice_index levels.now i }
 {
-    cells::byte(levels, i as usize)
+    cells::get(levels, i as usize)
 }
 
 pub fn newest_at(newest: &[u16], i: u32) -> u32
     ensures { result ≡ slice_index newest.now i }
 {
-    cells::half(newest, i as usize)
+    cells::get(newest, i as usize)
 }
 
 pub fn oldest_at(oldest: &[u32], i: u32) -> u32
     ensures { result ≡ slice_index oldest.now i }
 {
-    cells::word(oldest, i as usize)
+    cells::get(oldest, i as usize)
 }
 
 // The share of filler 0 to 3 at entry i. (By the same places a filler above 3 would have one of another entry; no call that is accepted has such a filler.)
 pub fn share_at(shares: &[u32], filler: u32, i: u32) -> u32
     ensures { result ≡ share_in shares.now filler i }
 {
-    cells::word(shares, 4 * (i as usize) + (filler as usize))
-}
-
-fn plus(x: u32, y: u32) -> u32
-    ensures { result ≡ (x + y) % 4294967296 }
-{
-    std::num::wrapping_add_u32(x, y)
+    cells::get(shares, 4 * (i as usize) + (filler as usize))
 }
 
 // The stored count of entry i: its four shares, added modulo 2^32.
 pub fn count_at(shares: &[u32], i: u32) -> u32
     ensures { result ≡ count_in shares.now i }
 {
-    let a = plus(share_at(shares, 0, i), share_at(shares, 1, i));
-    let b = plus(share_at(shares, 2, i), share_at(shares, 3, i));
-    plus(a, b)
+    let a = share_at(shares, 0, i).wrapping_add(share_at(shares, 1, i));
+    let b = share_at(shares, 2, i).wrapping_add(share_at(shares, 3, i));
+    a.wrapping_add(b)
 }
 
 // The four shares of entry i are 0.
@@ -132,62 +166,30 @@ pub fn clear_shares(shares: &mut [u32; 256], i: u32)
     cells::zero(shares, 4 * (i as usize), 4);
 }
 
-// Entry i of one of the arrays gets v.
-pub fn put_word(a: &mut [u32; 64], i: u32, v: u32)
-    ensures { a.new ≡ slice_set a.old i v }
-{
-    cells::store(a, i as usize, v);
-}
-
-pub fn put_half(a: &mut [u16; 64], i: u32, v: u16)
-    ensures { a.new ≡ slice_set a.old i v }
-{
-    cells::store_half(a, i as usize, v);
-}
-
-pub fn put_byte(a: &mut [u8; 64], i: u32, v: u8)
-    ensures { a.new ≡ slice_set a.old i v }
-{
-    cells::store_byte(a, i as usize, v);
-}
-
 // What the types say of the shares. It does nothing: its contract is what it is for.
 pub fn shares_shaped(shares: [u32; 256])
     ensures { Shares shares }
 {}
 
-// A share with one more and with one less, modulo 2^32.
-fn up(x: u32) -> u32
-    ensures { result ≡ (x + 1) % 4294967296 }
-{
-    std::num::wrapping_add_u32(x, 1)
+// Which way a pointer moves a share: into it or out of it.
+#[derive(Clone, Copy)]
+pub enum Way {
+    In,
+    Out,
 }
 
-fn down(x: u32) -> u32
-    ensures { result ≡ (x + 4294967295) % 4294967296 }
-{
-    std::num::wrapping_sub_u32(x, 1)
-}
-
-// The shares with one pointer more, and one less, into the region with that tag, by that filler, which is 0 to 3.
-pub fn enter(shares: &mut [u32], filler: u32, tag: u32)
-    ensures { shares.new ≡ entering filler shares.old tag }
+// The shares with one pointer more into the region with that tag, or one less, by that filler, which is 0 to 3: modulo 2^32.
+pub fn step(shares: &mut [u32], way: Way, filler: u32, tag: u32)
+    ensures { shares.new ≡ stepped (by way) filler shares.old tag }
 {
     if tag == 0 {
         return;
     }
     let p = 4 * ((tag - 1) as usize) + (filler as usize);
-    let v = up(cells::word(shares, p));
-    cells::store(shares, p, v);
-}
-
-pub fn leave(shares: &mut [u32], filler: u32, tag: u32)
-    ensures { shares.new ≡ leaving filler shares.old tag }
-{
-    if tag == 0 {
-        return;
-    }
-    let p = 4 * ((tag - 1) as usize) + (filler as usize);
-    let v = down(cells::word(shares, p));
-    cells::store(shares, p, v);
+    let v = cells::get(shares, p);
+    let moved = match way {
+        Way::In => v.wrapping_add(1),
+        Way::Out => v.wrapping_sub(1),
+    };
+    cells::put(shares, p, moved);
 }

@@ -1,10 +1,11 @@
 // The words of a line of a script, and the tables of what they can say: calls of the store by name or number, with how many arguments, and words that are no calls. Every function takes any bytes.
 #![tactic(auto)]
 
-ghost use Rattle.std.specs.Prelude.{◌≡◌, ◌+◌, ◌-◌, ltb, length, get_or, drop};
+ghost use Rattle.std.specs.Prelude.{◌≡◌, ◌≤◌, ◌+◌, ◌-◌, true, false, eqb, ltb, length, get_or, drop, MatchOption, IfSome};
+ghost use Rattle.std.specs.List.{take_while};
 ghost use Rattle.lists.specs.Lists.{pick};
-ghost use Rattle.script.specs.Script.{blank, of_class, front, tokens, value, placed, named, least, most, fillers, call_of, takes, allowed, unmarked};
-ghost use Rattle.script.specs.Found.{NextWord, LineAt};
+ghost use Rattle.script.specs.Script.{blank, of_class, front, tokens, digit, value, placed, named, least, most, fillers, call_of, takes, allowed, unmarked};
+ghost use Rattle.script.specs.Found.{class_number, Next, LineAt, written, or_none};
 
 // A line: `call` is one of the numbers below.
 // The filler is the one that `as` names, 0 where none is named. The arguments are the first `count` of `args`, and the others are 0.
@@ -17,6 +18,7 @@ pub struct Line {
 }
 
 // What a line says: nothing; `pages`; a call, up to the last one; a word that is no call; or none of these. No call will have the last four numbers.
+// Numbers and no enum: `line`, `call_of`, `allowed` and `heard` (specs/Script) have a line's call as a number, and `Scripted` and `ScriptRuns` stand on these.
 pub const NOTHING: u32 = 0;
 
 pub const PAGES: u32 = 1;
@@ -38,62 +40,64 @@ pub struct Span {
     pub to: usize,
 }
 
+// The classes of bytes that the scanner passes over.
+#[derive(Clone, Copy)]
+enum Class {
+    Blank,
+    InWord,
+    InLine,
+}
+
+impl Class {
+    fn has(self, b: u8) -> bool
+        ensures { result ≡ of_class (class_number self) b }
+    {
+        match self {
+            Class::Blank => blank(b),
+            Class::InWord => !(b == b'#' || blank(b)),
+            Class::InLine => b != b'\n',
+        }
+    }
+}
+
 fn blank(b: u8) -> bool
     ensures { result ≡ blank b }
 {
-    if b == 32 {
-        return true;
-    }
-    if b == 9 {
-        return true;
-    }
-    b == 13
+    b == b' ' || b == b'\t' || b == b'\r'
 }
 
-// Whether a byte is of class c: 0 a blank, 1 part of a word, 2 part of a line.
-fn of_class(c: u32, b: u8) -> bool
-    ensures { result ≡ of_class c b }
+// How many bytes in front are of the class.
+fn front_len(s: &[u8], class: Class) -> usize
+    ensures { result ≡ length (take_while (of_class (class_number class)) s.now) }
 {
-    if c == 2 {
-        return b != 10;
-    }
-    if c == 0 {
-        return blank(b);
-    }
-    if b == 35 {
-        return false;
-    }
-    !blank(b)
+    s.iter().take_while(|b| class.has(**b)).count()
 }
 
-// The first place from `at` on whose byte is not of class c, or the end.
-fn past(s: &[u8], at: usize, c: u32) -> usize
-    ensures { result ≡ at + length (front (of_class c) (drop at s.now)) }
+// The first place from `at` on whose byte is not of the class, or the end.
+fn past(s: &[u8], at: usize, class: Class) -> usize
+    ensures { result ≡ at + length (front (of_class (class_number class)) (drop at s.now)) }
 {
-    let mut i = at;
-    while i < s.len() {
-        if !of_class(c, s[i]) {
-            return i;
-        }
-        i += 1;
-    }
-    i
+    at + front_len(&s[at.min(s.len())..], class)
 }
 
-// The next word from `at` on. It is empty where there is none.
-pub fn word(s: &[u8], at: usize) -> Span
-    ensures { NextWord s.now at result.from result.to }
+// Where the next word from `at` on stands.
+pub fn word(s: &[u8], at: usize) -> Option<Span>
+    ensures { Next s.now at result }
 {
-    let from = past(s, at, 0);
-    let to = past(s, from, 1);
-    Span { from, to }
+    let from = past(s, at, Class::Blank);
+    let to = past(s, from, Class::InWord);
+    if from < to {
+        Some(Span { from, to })
+    } else {
+        None
+    }
 }
 
 // The first newline from `at` on, or the end.
 pub fn line_end(s: &[u8], at: usize) -> usize
     ensures { result ≡ at + length (front (of_class 2) (drop at s.now)) }
 {
-    past(s, at, 2)
+    past(s, at, Class::InLine)
 }
 
 // The line that begins at `at`, without its newline.
@@ -101,86 +105,75 @@ pub fn line_at(s: &[u8], at: usize) -> &[u8]
     ensures { LineAt s.now at result.now }
 {
     if s.len() <= at {
-        return &s[0..0];
+        return &[];
     }
-    let end = past(s, at, 2);
-    &s[at..end]
+    &s[at..line_end(s, at)]
 }
 
-// The number that a word writes, or 2^32 where it writes none below 2^32.
-pub fn number(w: &[u8]) -> u64
-    ensures { result ≡ value w.now }
+fn digit(b: u8) -> Option<u32>
+    ensures { MatchOption result (digit b ≡ false) (λ d. (digit b ≡ true) × (d ≡ b - 48)) }
 {
-    if w.len() == 0 {
-        return 4294967296;
+    match b {
+        b'0'..=b'9' => Some(u32::from(b - b'0')),
+        _ => None,
     }
-    let mut v: u64 = 0;
-    let mut i = 0;
-    while i < w.len() {
-        let b = w[i];
-        if b < 48 {
-            return 4294967296;
-        }
-        if 57 < b {
-            return 4294967296;
-        }
-        v = v * 10 + (b as u64 - 48);
-        if 4294967295 < v {
-            return 4294967296;
-        }
-        i += 1;
-    }
-    v
 }
 
-// The place of w among the words of a line, the first of which has the place `first`; 0 where it is none of them.
-fn place_of(w: &[u8], s: &[u8], first: u32) -> usize
-    ensures { result ≡ placed first w.now (tokens s.now) }
+// The number that a word writes, where it writes one below 2^32.
+pub fn number(w: &[u8]) -> Option<u32>
+    ensures { written result ≡ value w.now }
+{
+    if w.is_empty() {
+        return None;
+    }
+    let mut v: u32 = 0;
+    for b in w {
+        let d = digit(*b)?;
+        v = v.checked_mul(10)?.checked_add(d)?;
+    }
+    Some(v)
+}
+
+// The place of w among the words of a line, the first of which has the place `first`.
+fn place_of(w: &[u8], s: &[u8], first: u32) -> Option<usize>
+    ensures place { or_none result ≡ placed first w.now (tokens s.now) }
+    ensures counted { IfSome result (λ n. first ≤ n) }
 {
     let mut n = first as usize;
-    let mut i = 0;
-    loop {
-        let p = word(s, i);
-        let from = p.from;
-        let to = p.to;
-        if to <= from {
-            return 0;
-        }
-        if check::same(w, &s[from..to]) {
-            return n;
+    let mut at = 0;
+    while let Some(p) = word(s, at) {
+        if w == &s[p.from..p.to] {
+            return Some(n);
         }
         n += 1;
-        i = to;
+        at = p.to;
     }
+    None
 }
 
-// The number of the call with that name, or of the word that is no call; 0 where it is none of them.
-fn named(w: &[u8]) -> u32
-    ensures { result ≡ named w.now }
+// The number of the call with that name, or of the word that is no call.
+fn named(w: &[u8]) -> Option<u32>
+    ensures { or_none result ≡ named w.now }
 {
-    let n = place_of(
+    let call = place_of(
         w,
         b"pages declare new_region subregion push drop hand_back allocate first copy fetch clear load set_pointer put get view same about report totals audit delete delete_all locate",
         1,
     );
-    if n != 0 {
-        return n as u32;
+    if let Some(n) = call {
+        return Some(n as u32);
     }
-    place_of(w, b"summary help why", SUMMARY) as u32
+    let n = place_of(w, b"summary help why", SUMMARY)?;
+    Some(n as u32)
 }
 
-// The number of the call that a word names or numbers, or of a word that is no call; 1 for pages, 0 for none.
-pub fn call_of(w: &[u8]) -> u32
-    ensures { result ≡ call_of w.now }
+// The number of the call that a word names or numbers, or of a word that is no call; 1 for pages.
+pub fn call_of(w: &[u8]) -> Option<u32>
+    ensures { or_none result ≡ call_of w.now }
 {
-    let v = number(w);
-    if v < 2 {
-        return named(w);
-    }
-    if v <= LAST_CALL as u64 {
-        v as u32
-    } else {
-        named(w)
+    match number(w) {
+        Some(v) if 2 <= v && v <= LAST_CALL => Some(v),
+        _ => named(w),
     }
 }
 
@@ -189,9 +182,10 @@ fn column(calls: &[u8], words: &[u8], n: u32) -> u32
     ensures { result ≡ pick (ltb n 252) (get_or calls.now n 0) (get_or words.now (n - 252) 0) }
 {
     if n < SUMMARY {
-        return cells::byte(calls, n as usize);
+        cells::get(calls, n as usize)
+    } else {
+        cells::get(words, (n - SUMMARY) as usize)
     }
-    cells::byte(words, (n - SUMMARY) as usize)
 }
 
 // The least number of arguments of call n.
@@ -199,8 +193,10 @@ fn least(n: u32) -> u32
     ensures { result ≡ least n }
 {
     column(
-        b"\x00\x01\x00\x00\x01\x01\x00\x02\x03\x02\x02\x02\x01\x03\x03\x03\x02\x01\x02\x01\x01\x00\x00\x01\x00\x01",
-        b"\x00\x00\x01",
+        &[
+            0, 1, 0, 0, 1, 1, 0, 2, 3, 2, 2, 2, 1, 3, 3, 3, 2, 1, 2, 1, 1, 0, 0, 1, 0, 1,
+        ],
+        &[0, 0, 1],
         n,
     )
 }
@@ -210,63 +206,48 @@ fn most(n: u32) -> u32
     ensures { result ≡ most n }
 {
     column(
-        b"\x00\x01\x40\x00\x01\x01\x00\x02\x03\x02\x02\x02\x01\x03\x03\x03\x02\x01\x02\x01\x01\x00\x00\x01\x40\x01",
-        b"\x00\x00\x01",
+        &[
+            0, 1, 64, 0, 1, 1, 0, 2, 3, 2, 2, 2, 1, 3, 3, 3, 2, 1, 2, 1, 1, 0, 0, 1, 64, 1,
+        ],
+        &[0, 0, 1],
         n,
     )
 }
 
-// 1 where a filler may be named in front of call n, and 0 elsewhere.
-pub fn names_filler(n: u32) -> u32
-    ensures { result ≡ get_or fillers n 0 }
+// Whether a filler may be named in front of call n: of drop, hand_back, set_pointer, delete and delete_all.
+pub fn names_filler(n: u32) -> bool
+    ensures { result ≡ eqb (get_or fillers n 0) 1 }
 {
-    cells::byte(
-        b"\x00\x00\x00\x00\x00\x00\x01\x01\x00\x00\x00\x00\x00\x00\x01\x00\x00\x00\x00\x00\x00\x00\x00\x01\x01\x00",
-        n as usize,
-    )
+    [6, 7, 14, 23, 24].contains(&n)
 }
 
 // Whether call n takes k arguments.
 fn takes(n: u32, k: u32) -> bool
     ensures { result ≡ takes n k }
 {
-    if k < least(n) {
-        return false;
-    }
-    k <= most(n)
+    least(n) <= k && k <= most(n)
 }
 
 // Whether call n may stand here with k arguments, the first of them a: pages with 257 at most while no store is made, and no other call before a pages line; the words that are no calls anywhere.
+// The stage is a number: `allowed` and `heard` (specs/Script) have it as one, and `ScriptRuns` says that it is 2.
 pub fn allowed(stage: u32, n: u32, k: u32, a: u32) -> bool
     ensures { result ≡ allowed stage n k a }
 {
-    if n == 0 {
+    if n == 0 || !takes(n, k) {
         return false;
     }
-    if !takes(n, k) {
-        return false;
+    if n == PAGES {
+        return stage < 2 && a <= 257;
     }
-    if n == 1 {
-        if 2 <= stage {
-            return false;
-        }
-        return a <= 257;
-    }
-    if SUMMARY <= n {
-        return true;
-    }
-    0 < stage
+    SUMMARY <= n || 0 < stage
 }
 
 // A line without the byte order mark in front of it.
 pub fn unmarked(s: &[u8]) -> &[u8]
     ensures { result.now ≡ unmarked s.now }
 {
-    if s.len() < 3 {
-        return s;
+    match s.strip_prefix(b"\xEF\xBB\xBF") {
+        Some(rest) => rest,
+        None => s,
     }
-    if check::same(&s[0..3], b"\xEF\xBB\xBF") {
-        return &s[3..];
-    }
-    s
 }

@@ -22,11 +22,7 @@ pub use calls_slots::{clear_in, copy_in, fetch_in, first_in};
 pub use calls_stack::{drop_in, hand_back_in, push_in};
 pub use calls_words::{get_in, put_in, view_in};
 pub use dispatch::call_in;
-use frames::Frames;
-use kinds::Kinds;
 pub use lent::View;
-use pages::Pages;
-use regions::Regions;
 pub use state::{Done, Reply, State};
 
 // Any call but make by its number, as `call_in` takes it, by value.
@@ -42,41 +38,25 @@ pub fn call(
 ) -> Done
     ensures { Dispatched number a b c d list.now (store s heap.old) result.reply (store result.state heap.new) }
 {
-    let mut standing = s.frames.standing;
-    let mut counted = s.frames.counted;
-    let mut declared = s.kinds.declared;
-    let mut given = s.regions.given;
-    let mut made = s.pages.made;
-    let mut widths = s.frames.widths;
-    let mut slots = s.frames.slots;
-    let mut sizes = s.kinds.sizes;
-    let mut marks = s.kinds.marks;
-    let mut names = s.regions.names;
-    let mut parents = s.regions.parents;
-    let mut levels = s.regions.levels;
-    let mut shares = s.regions.shares;
-    let mut newest = s.regions.newest;
-    let mut oldest = s.regions.oldest;
-    let mut owners = s.pages.owners;
-    let mut taken = s.pages.taken;
+    let mut state = s;
     let reply = call_in(
-        &mut standing,
-        &mut counted,
-        &mut declared,
-        &mut given,
-        &mut made,
-        &mut widths,
-        &mut slots,
-        &mut sizes,
-        &mut marks,
-        &mut names,
-        &mut parents,
-        &mut levels,
-        &mut shares,
-        &mut newest,
-        &mut oldest,
-        &mut owners,
-        &mut taken,
+        &mut state.frames.standing,
+        &mut state.frames.counted,
+        &mut state.kinds.declared,
+        &mut state.regions.given,
+        &mut state.pages.made,
+        &mut state.frames.widths,
+        &mut state.frames.slots,
+        &mut state.kinds.sizes,
+        &mut state.kinds.marks,
+        &mut state.regions.names,
+        &mut state.regions.parents,
+        &mut state.regions.levels,
+        &mut state.regions.shares,
+        &mut state.regions.newest,
+        &mut state.regions.oldest,
+        &mut state.pages.owners,
+        &mut state.pages.taken,
         heap,
         number,
         a,
@@ -85,32 +65,5 @@ pub fn call(
         d,
         list,
     );
-    let state = State {
-        frames: Frames {
-            standing,
-            counted,
-            widths,
-            slots,
-        },
-        kinds: Kinds {
-            declared,
-            sizes,
-            marks,
-        },
-        regions: Regions {
-            given,
-            names,
-            parents,
-            levels,
-            shares,
-            newest,
-            oldest,
-        },
-        pages: Pages {
-            made,
-            owners,
-            taken,
-        },
-    };
     Done { state, reply }
 }

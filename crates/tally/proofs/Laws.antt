@@ -1,23 +1,16 @@
 -- From what the functions gave to what is kept of a line and what is printed for it.
 -- Assumes nothing.
-use Rattle.std.proofs.Common.{◌≡◌, ℕ, ◌+◌, ◌-◌, ◌≤◌, min, leb, List, [], ◌++◌, length, take, sym, ap, ◌∙◌, append-nil, arith, length-take, length-take-le, le-leb, leb-false, leb-true}
+use Rattle.std.proofs.Common.{◌≡◌, refl, ℕ, ◌+◌, ◌-◌, ◌≤◌, min, List, [], ◌++◌, length, take, sym, ap, ◌∙◌, append-nil, arith, length-take, length-take-le}
 use lib.Seq.{take-append-add}
-use borrow.Author.Tests.{lt-leb}
-use Rattle.lists.specs.Laws.Tests.{by_test}
-use Rattle.lines.specs.Lines.{Added}
+use Rattle.lines.specs.declared.Buffer.{Buffer}
+use Rattle.lines.specs.Lines.{Added, Appends}
 use Rattle.lists.specs.Laws.Parts.{front_same}
 use Rattle.tally.specs.Answers.{kept}
 
--- ---- room
+-- ---- answers
 
-pub room_here : (n used : ℕ) → 1024 ≤ n → leb used (n - 1024) ≡ leb (used + 1024) n
-room_here n used h =
-    by_test (leb used (n - 1024))
-    (λ q. q ∙ sym (le-leb (used + 1024) n (omega (arith, leb-true used (n - 1024) q))))
-    (λ q. q ∙ sym (lt-leb (used + 1024) n (omega (arith, leb-false used (n - 1024) q))))
-
-pub added_none : (l : List ℕ) (at : ℕ) → Added l at [] l at
-added_none l at = record { end = λ h. omega arith; text = λ h. sym (append-nil (take at l)) }
+pub appends_none : (b : Buffer) → Appends b [] b
+appends_none b = record { added = record { end = λ h. omega arith; text = λ h. sym (append-nil (take b.used b.bytes.now)) }; as_long = refl; same_reference = refl }
 
 -- ---- what is kept of a line
 

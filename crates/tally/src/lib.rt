@@ -3,9 +3,10 @@
 
 ghost use Rattle.std.specs.Prelude.{◌≡◌, ◌+◌, ◌≤◌, not, ◌&&◌, ◌++◌, length, take, ◌==◌, nat_le};
 ghost use Rattle.lists.specs.Lists.{pick};
-ghost use Rattle.lines.specs.Lines.{Added};
+ghost use Rattle.lines.specs.Lines.{Appends};
 ghost use Rattle.tally.specs.Answers.{kept, more, is_called, tallied, answer};
 
+use lines::Buffer;
 use script::{HELP, LAST_CALL, NO_CALL, NOTHING, PAGES, SUMMARY, WHY};
 use state::Reply;
 
@@ -16,6 +17,7 @@ const KEPT: usize = 4100;
 const LONGEST: usize = 1024;
 
 // What a session has counted: whether no line has ended yet, its stage (0 before `pages`, 1 where make refused the last one, 2 where a store is made), lines, accepted and refused calls, and bad lines.
+// The stage is a number, as `heard` (script) has it and theorems on scripts (`heard_kept`) with it.
 #[derive(Clone, Copy)]
 pub struct Tally {
     pub first: bool,
@@ -30,39 +32,26 @@ pub struct Tally {
 fn more(x: u64, t: bool) -> u64
     ensures { result ≡ more x t }
 {
-    if t {
-        std::num::wrapping_add_u64(x, 1)
-    } else {
-        x
-    }
+    if t { x.wrapping_add(1) } else { x }
 }
 
 fn is_called(n: u32) -> bool
     ensures { result ≡ is_called n }
 {
-    if n < 1 {
-        return false;
-    }
-    n <= LAST_CALL
+    (1..=LAST_CALL).contains(&n)
 }
 
 // Whether a line is a call that was accepted, and whether it is one that was refused.
 fn accepts(call: u32, refusal: u32) -> bool
     ensures { result ≡ (is_called call && refusal == 0) }
 {
-    if !is_called(call) {
-        return false;
-    }
-    refusal == 0
+    is_called(call) && refusal == 0
 }
 
 fn refuses(call: u32, refusal: u32) -> bool
     ensures { result ≡ (is_called call && not (refusal == 0)) }
 {
-    if !is_called(call) {
-        return false;
-    }
-    refusal != 0
+    is_called(call) && refusal != 0
 }
 
 fn stage_after(stage: u32, call: u32, refusal: u32) -> u32
@@ -89,43 +78,37 @@ pub fn tallied(c: Tally, call: u32, refusal: u32) -> Tally
 }
 
 // Adds the answer to a line with that call, its first argument a: r is the reply to print.
-pub fn add_answer(out: &mut [u8], at: usize, c: Tally, call: u32, a: u32, r: Reply) -> usize
-    ensures { Added out.old at (answer c call a r) out.new result }
+pub fn add_answer(out: &mut Buffer, c: Tally, call: u32, a: u32, r: Reply)
+    ensures { Appends out.old (answer c call a r) out.new }
 {
-    let calls = std::num::wrapping_add_u64(c.accepted, c.refused);
-    if call == NOTHING {
-        return at;
+    let calls = c.accepted.wrapping_add(c.refused);
+    match call {
+        NOTHING => {}
+        NO_CALL => out.add_bad(more(c.lines, true)),
+        SUMMARY => out.add_summary(calls, c.accepted, c.refused, c.bad),
+        HELP => guide::add_help(out),
+        WHY => guide::add_why(out, a),
+        _ => out.add_line(more(calls, true), r),
     }
-    if call == NO_CALL {
-        return lines::add_bad(out, at, more(c.lines, true));
-    }
-    if call == SUMMARY {
-        return lines::add_summary(out, at, calls, c.accepted, c.refused, c.bad);
-    }
-    if call == HELP {
-        return guide::add_help(out, at);
-    }
-    if call == WHY {
-        return guide::add_why(out, at, a);
-    }
-    lines::add_line(out, at, more(calls, true), r)
 }
 
 // Adds bytes to the `held` that are kept of a line, up to 4,100 in all, and gives how many are kept then.
 pub fn keep(line: &mut [u8], held: usize, s: &[u8]) -> usize
     ensures { length line.old ≡ 4100 → (result ≤ 4100) × (take result line.new ≡ kept (take held line.old ++ s.now)) }
 {
-    let from = cells::within(held, KEPT);
-    let n = cells::within(s.len(), KEPT - from);
-    lines::add(line, from, &s[0..n])
+    let from = held.min(KEPT);
+    let n = s.len().min(KEPT - from);
+    let mut kept = Buffer {
+        bytes: line,
+        used: from,
+    };
+    kept.add(&s[0..n]);
+    kept.used
 }
 
-// Whether n bytes of which some are used have room for any answer.
-pub fn room(n: usize, used: usize) -> bool
-    ensures { result ≡ nat_le (used + 1024) n }
+// Whether a buffer has room for any answer.
+pub fn room(out: &Buffer) -> bool
+    ensures { result ≡ nat_le (out.now.used + 1024) (length out.now.bytes.now) }
 {
-    if n < LONGEST {
-        return false;
-    }
-    used <= n - LONGEST
+    LONGEST <= out.bytes.len() && out.used <= out.bytes.len() - LONGEST
 }

@@ -13,18 +13,17 @@ use Rattle.apart.proofs.scan.Goals.{else-is_member, then-is_member}
 
 pub loop-j-init : goal.loop-j-init
 unfolding out_by steps
-loop-j-init c = (c.page_count-end.ensures, search rules, refl)
+loop-j-init c = (c.page_count-end.ensures, refl)
 
 pub loop-j-preserved : goal.loop-j-preserved
 unfolding owner_at taken_at
 loop-j-preserved c =
-    let k = kinds_with c.args.declared c.args.sizes.now c.args.marks.now in
-    let p = pages_with c.args.made c.args.owners.now c.args.taken.now in (
+    let k = kinds_with c.args.kinds.now.declared c.args.kinds.now.sizes.now c.args.kinds.now.marks.now in
+    let p = pages_with c.args.pages.now.made c.args.pages.now.owners.now c.args.pages.now.taken.now in (
       c.loop-j.invariant.0,
-      omega arith,
       elim c.if-is_member.branch [
-        | then-is_member w ↦ w.c-is ∙ w.leave_page.ensures (omega (arith, w.taken_at-m.ensures)) ∙ out_left (λ i. c.args.owners.now) k c.args.heap.now p (tick_at c.args.members.now) c.loop-j.j c.args.filler c.owner_at-t.result _ c.args.shares _ c.owner_at-t.ensures w.taken_at-m.ensures c.loop-j.invariant.2 (sym c.is_member.ensures ∙ w.if-is_member.true)
-        | else-is_member w ↦ w.c-is ∙ c.loop-j.invariant.2 ∙ ap (leavings c.args.filler c.args.shares) (out_other (λ i. c.args.owners.now) k c.args.heap.now p (tick_at c.args.members.now) c.loop-j.j (rw (← c.owner_at-t.ensures) (sym c.is_member.ensures ∙ w.if-is_member.false)))
+        | then-is_member w ↦ w.c-is ∙ w.leave_objects.ensures (omega (arith, w.taken_at-m.ensures)) ∙ out_left (λ i. c.args.pages.now.owners.now) k c.args.heap.now p (tick_at c.args.members.now.ticks) c.loop-j.j c.args.filler c.owner_at-t.result _ c.args.shares _ c.owner_at-t.ensures w.taken_at-m.ensures c.loop-j.invariant.1 (sym c.is_member.ensures ∙ w.if-is_member.true)
+        | else-is_member w ↦ w.c-is ∙ c.loop-j.invariant.1 ∙ ap (leavings c.args.filler c.args.shares) (out_other (λ i. c.args.pages.now.owners.now) k c.args.heap.now p (tick_at c.args.members.now.ticks) c.loop-j.j (rw (← c.owner_at-t.ensures) (sym c.is_member.ensures ∙ w.if-is_member.false)))
       ],
     )
 
@@ -32,5 +31,5 @@ pub returns : goal.returns
 unfolding page_count
 returns c few =
     let shares-fit : Shares c.args.shares = fits_shares c.args.shares (search rules) (λ i. search rules) in
-    let e : page_count_in c.args.made ≡ c.loop-j.j = omega arith in
-    scans_by _ _ _ _ _ _ _ few shares-fit (rw e c.loop-j.invariant.2)
+    let e : page_count_in c.args.pages.now.made ≡ c.loop-j.j = omega arith in
+    scans_by _ _ _ _ _ _ _ few shares-fit (rw e c.loop-j.invariant.1)

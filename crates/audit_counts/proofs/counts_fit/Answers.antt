@@ -10,7 +10,7 @@ use Rattle.audit_counts.proofs.counts_fit.Goals as goal
 pub returns : goal.returns
 unfolding counts_fit counted_tags
 returns c =
-    let k = kinds_with c.args.declared c.args.sizes.now c.args.marks.now in
-    let ws = joined (word_tags k c.args.heap.now c.args.owners.now c.args.taken.now) (up_to (page_count_in c.args.made)) in
-    let ts = joined (targets_in c.args.widths.now c.args.slots.now c.args.owners.now) (up_to c.args.counted) in
-    c.all_zero.ensures ∙ ap (all_zero c.args.names.now) (c.leave_frames.ensures ∙ rw c.leave_pages.ensures (steps_append 4294967295 0 c.args.shares.now ws ts))
+    let k = kinds_with c.args.kinds.now.declared c.args.kinds.now.sizes.now c.args.kinds.now.marks.now in
+    let ws = joined (word_tags k c.args.heap.now c.args.pages.now.owners.now c.args.pages.now.taken.now) (up_to (page_count_in c.args.pages.now.made)) in
+    let ts = joined (targets_in c.args.frames.now.widths.now c.args.frames.now.slots.now c.args.pages.now.owners.now) (up_to c.args.counted) in
+    c.all_zero.ensures ∙ ap (all_zero c.args.regions.now.names.now) (c.leave_frames.ensures ∙ rw c.leave_pages.ensures (steps_append 4294967295 0 c.args.shares.now ws ts))

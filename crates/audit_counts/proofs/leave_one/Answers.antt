@@ -11,4 +11,4 @@ returns-then-t-eq0 c = rw (← c.owner_at-t.ensures, eq-eqb _ _ c.if-t-eq0.true)
 pub returns : goal.returns
 unfolding word_tags
 returns c =
-    rw (← c.owner_at-t.ensures, ← c.taken_at-n.ensures, ne_eqb _ _ c.if-t-eq0.false) (c.leave_page.ensures (omega (arith, c.taken_at-n.ensures)))
+    rw (← c.owner_at-t.ensures, ← c.taken_at-n.ensures, ne_eqb _ _ c.if-t-eq0.false) (c.leave_objects.ensures (omega (arith, c.taken_at-n.ensures)))

@@ -24,20 +24,20 @@ all_passed declared sizes heap j n at r few low inv none e =
 pub loop-at-preserved : goal.loop-at-preserved
 unfolding size_of
 loop-at-preserved c =
-    let next : let e = 64 * c.args.j + c.args.n in (c.loop-at.at + 1 + c.fitting-s.result ≤ e) × (rest c.args.declared c.args.sizes.now c.args.heap.now e c.loop-at.at ≡ 1 + c.fitting-s.result + rest c.args.declared c.args.sizes.now c.args.heap.now e (c.loop-at.at + 1 + c.fitting-s.result)) = let z = rw c.part_at-object.ensures at c.fitting-s.ensures in
-    let t = headers_on_lem (kinds_with c.args.declared c.args.sizes.now []) c.args.heap.now c.loop-at.at (64 * c.args.j + c.args.n) _ z c.if-s-eq0.false in
+    let next : let e = 64 * c.args.j + c.args.n in (c.loop-at.at + 1 + c.fits-s.result ≤ e) × (rest c.args.kinds.now.declared c.args.kinds.now.sizes.now c.args.heap.now e c.loop-at.at ≡ 1 + c.fits-s.result + rest c.args.kinds.now.declared c.args.kinds.now.sizes.now c.args.heap.now e (c.loop-at.at + 1 + c.fits-s.result)) = let z = rw c.part_at-object.ensures at c.fits-s.ensures in
+    let t = headers_on_lem (kinds_with c.args.kinds.now.declared c.args.kinds.now.sizes.now []) c.args.heap.now c.loop-at.at (64 * c.args.j + c.args.n) _ z c.if-s-eq0.false in
     (t.0, rw (t.2, ← t.1)) in
     omega (arith, next)
 
 pub returns-then-s-eq0 : goal.returns-then-s-eq0
 returns-then-s-eq0 c =
     let few : c.args.n ≤ 64 = search rules in
-    let z = rw c.part_at-object.ensures at c.fitting-s.ensures in
-    all_passed c.args.declared c.args.sizes.now c.args.heap.now c.args.j c.args.n c.loop-at.at _ few c.loop-at.invariant.0 c.loop-at.invariant.2
-    (headers_stop (kinds_with c.args.declared c.args.sizes.now []) c.args.heap.now c.loop-at.at (64 * c.args.j + c.args.n) _ z c.if-s-eq0.true) refl
+    let z = rw c.part_at-object.ensures at c.fits-s.ensures in
+    all_passed c.args.kinds.now.declared c.args.kinds.now.sizes.now c.args.heap.now c.args.j c.args.n c.loop-at.at _ few c.loop-at.invariant.0 c.loop-at.invariant.2
+    (headers_stop (kinds_with c.args.kinds.now.declared c.args.kinds.now.sizes.now []) c.args.heap.now c.loop-at.at (64 * c.args.j + c.args.n) _ z c.if-s-eq0.true) refl
 
 pub returns : goal.returns
 returns c =
     let few : c.args.n ≤ 64 = search rules in
-    all_passed c.args.declared c.args.sizes.now c.args.heap.now c.args.j c.args.n c.loop-at.at _ few c.loop-at.invariant.0 c.loop-at.invariant.2
-    (headers_end (kinds_with c.args.declared c.args.sizes.now []) c.args.heap.now c.loop-at.at (64 * c.args.j + c.args.n) (omega arith)) refl
+    all_passed c.args.kinds.now.declared c.args.kinds.now.sizes.now c.args.heap.now c.args.j c.args.n c.loop-at.at _ few c.loop-at.invariant.0 c.loop-at.invariant.2
+    (headers_end (kinds_with c.args.kinds.now.declared c.args.kinds.now.sizes.now []) c.args.heap.now c.loop-at.at (64 * c.args.j + c.args.n) (omega arith)) refl

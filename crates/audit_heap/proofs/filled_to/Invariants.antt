@@ -14,7 +14,7 @@ rest declared sizes heap end at = sum_of (λ q. 1 + size_in declared sizes (get_
 -- the words passed and those left are all
 abbrev pub invariant-loop-at : goal.invariant-loop-at
 invariant-loop-at l =
-    (l.start ≤ l.at) × (l.at ≤ l.end) × (l.at + rest l.declared l.sizes l.heap l.end l.at ≡ l.start + rest l.declared l.sizes l.heap l.end l.start)
+    (l.start ≤ l.at) × (l.at ≤ l.end) × (l.at + rest l.kinds.declared l.kinds.sizes.now l.heap l.end l.at ≡ l.start + rest l.kinds.declared l.kinds.sizes.now l.heap l.end l.start)
 
 abbrev pub decreases-loop-at : goal.decreases-loop-at
 decreases-loop-at l = l.end - l.at

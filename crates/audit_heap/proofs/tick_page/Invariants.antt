@@ -10,7 +10,7 @@ use Rattle.audit_heap.proofs.tick_page.Given as goal
 -- when the headers left are ticked too, all are
 abbrev pub invariant-loop-at : goal.invariant-loop-at
 invariant-loop-at l =
-    let k = kinds_with l.declared l.sizes [] in
+    let k = kinds_with l.kinds.declared l.kinds.sizes.now [] in
     (l.at ≤ l.end) × (length l.heads ≡ length l.initial.heads) × (ticked l.heads (headers_left k l.heap l.at l.end) ≡ ticked l.initial.heads (headers_left k l.heap l.initial.at l.end))
 
 abbrev pub decreases-loop-at : goal.decreases-loop-at

@@ -1,23 +1,13 @@
 use Prim.Native.Nat.{◌<◌}
 use native.Mathlib.Omega.{arith}
-use borrow.Author.Tests.{lt-ltb, le-ltb}
-use Rattle.lists.specs.Laws.Every.{passed_not, passed_all}
+use borrow.Author.Rules.{rules}
+use borrow.Author.Tests.{lt-ltb}
+use Rattle.lists.specs.Laws.Chains.{every_from_all}
 use Rattle.audit_regions.specs.Filed.{entry_fits, regions_fit}
 use Rattle.audit_regions.proofs.regions_fit.Goals as goal
 
-pub returns-then-entry_of-ge64 : goal.returns-then-entry_of-ge64
+pub returns-then-entry_of-lt64 : goal.returns-then-entry_of-lt64
 unfolding regions_fit
-returns-then-entry_of-ge64 c = rw (← c.entry_of.ensures) (simp (le-ltb c.entry_of.result 64 (omega arith)))
-
-pub returns-then-not-entry_fits : goal.returns-then-not-entry_fits
-unfolding regions_fit
-returns-then-not-entry_fits c =
+returns-then-entry_of-lt64 c =
     let lives : c.entry_of.result < 64 = omega arith in
-    rw (← c.entry_of.ensures, lt-ltb _ _ lives)
-    (passed_not (entry_fits c.args.given c.args.names.now c.args.parents.now c.args.levels.now) 64 c.loop-i.i (omega arith) (rw (← c.entry_fits.ensures) c.if-not-entry_fits.true))
-
-pub returns : goal.returns
-unfolding regions_fit
-returns c =
-    let lives : c.entry_of.result < 64 = omega arith in
-    rw (← c.entry_of.ensures, lt-ltb _ _ lives) (passed_all (entry_fits c.args.given c.args.names.now c.args.parents.now c.args.levels.now) 64 c.loop-i.i c.loop-i.invariant (omega arith))
+    rw (← c.entry_of.ensures, lt-ltb _ _ lives) (every_from_all (entry_fits c.args.given c.args.regions.now.names.now c.args.regions.now.parents.now c.args.regions.now.levels.now) 64 c.all.ensures.ran (λ x b q h k. search rules))

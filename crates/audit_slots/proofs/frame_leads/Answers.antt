@@ -1,15 +1,10 @@
-use native.Mathlib.Omega.{arith}
-use Rattle.lists.specs.Laws.Every.{passed_not, passed_all}
-use Rattle.frames.specs.Frames.{width_in}
-use Rattle.audit_slots.specs.Leads.{frame_leads}
+use borrow.Author.Rules.{rules}
+use Rattle.lists.specs.Ticks.{tick_at}
+use Rattle.lists.specs.Laws.Chains.{every_from_all}
+use Rattle.frames.specs.Frames.{slot_in}
+use Rattle.audit_slots.specs.Leads.{known, frame_leads}
 use Rattle.audit_slots.proofs.frame_leads.Goals as goal
-
-pub returns-then-not-known : goal.returns-then-not-known
-unfolding frame_leads
-returns-then-not-known c =
-    passed_not _ (width_in c.args.widths.now c.args.i) c.loop-s.s (omega arith) (rw (← c.slot_at.ensures, ← c.known.ensures) c.if-not-known.true)
 
 pub returns : goal.returns
 unfolding frame_leads
-returns c =
-    passed_all _ (width_in c.args.widths.now c.args.i) c.loop-s.s c.loop-s.invariant.1 (omega arith)
+returns c = rw (← c.width_at-n.ensures) (every_from_all (λ s. known (tick_at c.args.heads.now) (slot_in c.args.frames.now.slots.now c.args.i s)) c.width_at-n.result c.all.ensures.ran (λ x b q h k. search rules))

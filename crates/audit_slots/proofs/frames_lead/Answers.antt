@@ -1,14 +1,9 @@
-use native.Mathlib.Omega.{arith}
-use Rattle.lists.specs.Laws.Every.{passed_not, passed_all}
-use Rattle.frames.specs.Frames.{frame_count_in}
-use Rattle.audit_slots.specs.Leads.{frames_lead}
+use borrow.Author.Rules.{rules}
+use Rattle.lists.specs.Ticks.{tick_at}
+use Rattle.lists.specs.Laws.Chains.{every_from_all}
+use Rattle.audit_slots.specs.Leads.{frame_leads, frames_lead}
 use Rattle.audit_slots.proofs.frames_lead.Goals as goal
-
-pub returns-then-not-frame_leads : goal.returns-then-not-frame_leads
-unfolding frames_lead
-returns-then-not-frame_leads c =
-    passed_not _ (frame_count_in c.args.standing) c.loop-i.i (omega arith) (rw (← c.frame_leads.ensures) c.if-not-frame_leads.true)
 
 pub returns : goal.returns
 unfolding frames_lead
-returns c = passed_all _ (frame_count_in c.args.standing) c.loop-i.i c.loop-i.invariant.1 (omega arith)
+returns c = rw (← c.frame_count-n.ensures) (every_from_all (frame_leads (tick_at c.args.heads.now) c.args.frames.now.widths.now c.args.frames.now.slots.now) c.frame_count-n.result c.all.ensures.ran (λ x b q h k. search rules))

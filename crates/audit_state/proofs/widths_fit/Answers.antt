@@ -1,17 +1,10 @@
-use mathlib.Core.Path.{◌≡◌, sym}
-use native.Mathlib.Omega.{arith}
-use Rattle.lists.specs.Laws.Every.{passed_not, passed_all}
-use Rattle.frames.specs.Frames.{frame_count_in}
+use borrow.Author.Rules.{rules}
+use Rattle.lists.specs.Laws.Chains.{every_from_all}
+use Rattle.frames.specs.Frames.{width_in}
 use Rattle.outcomes.specs.Sound.{within}
 use Rattle.audit_state.specs.Fits.{widths_fit}
 use Rattle.audit_state.proofs.widths_fit.Goals as goal
 
-pub returns-then-not-within : goal.returns-then-not-within
-unfolding widths_fit
-returns-then-not-within c =
-    let fits : within 1 8 c.width_at.result ≡ c.within.result = sym c.within.ensures in
-    passed_not _ (frame_count_in c.args.standing) c.loop-i.i (omega arith) (rw (← c.width_at.ensures, fits) c.if-not-within.true)
-
 pub returns : goal.returns
 unfolding widths_fit
-returns c = passed_all _ (frame_count_in c.args.standing) c.loop-i.i c.loop-i.invariant.1 (omega arith)
+returns c = rw (← c.frame_count-n.ensures) (every_from_all (λ i. within 1 8 (width_in c.args.frames.now.widths.now i)) c.frame_count-n.result c.all.ensures.ran (λ x b q h k. search rules))

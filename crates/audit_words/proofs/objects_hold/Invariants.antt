@@ -17,7 +17,7 @@ rest heads names parents levels owners declared sizes marks heap own end at =
 -- the objects left hold if all do
 abbrev pub invariant-loop-at : goal.invariant-loop-at
 invariant-loop-at l =
-    let holds : ℕ → Bool = rest l.heads l.names l.parents l.levels l.owners l.declared l.sizes l.marks l.heap l.own l.end in
+    let holds : ℕ → Bool = rest l.heads l.regions.names.now l.regions.parents.now l.regions.levels.now l.pages.owners.now l.kinds.declared l.kinds.sizes.now l.kinds.marks.now l.heap l.own l.end in
     (l.at ≤ l.end) × (holds l.at ≡ holds l.initial.at)
 
 abbrev pub decreases-loop-at : goal.decreases-loop-at

@@ -1,4 +1,4 @@
 use Rattle.by_value.proofs.declare.Goals as goal
 
 pub returns : goal.returns
-returns c = rw c.lay_pages.ensures (c.declare_in-r.ensures c.args.s)
+returns c = c.declare_in-reply.ensures c.args.s

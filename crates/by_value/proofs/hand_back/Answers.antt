@@ -1,4 +1,4 @@
 use Rattle.by_value.proofs.hand_back.Goals as goal
 
 pub returns : goal.returns
-returns c = rw c.lay_slots.ensures (c.hand_back_in-r.ensures c.args.s)
+returns c = c.hand_back_in-reply.ensures c.args.s

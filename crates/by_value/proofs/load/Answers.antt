@@ -1,4 +1,4 @@
 use Rattle.by_value.proofs.load.Goals as goal
 
 pub returns : goal.returns
-returns c = c.load_in-r.ensures c.args.s
+returns c = c.load_in-reply.ensures c.args.s

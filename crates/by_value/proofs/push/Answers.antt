@@ -1,4 +1,4 @@
 use Rattle.by_value.proofs.push.Goals as goal
 
 pub returns : goal.returns
-returns c = rw c.lay_widths.ensures (c.push_in-r.ensures c.args.s)
+returns c = c.push_in-reply.ensures c.args.s

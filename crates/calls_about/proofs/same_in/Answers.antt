@@ -1,5 +1,9 @@
-use mathlib.Core.Path.{refl, sym, ◌∙◌}
-use borrow.Author.Tests.{eq-eqb, ne_eqb}
+use mathlib.Core.Path.{◌≡◌, refl, sym, ◌∙◌}
+use mathlib.Core.Bool.{Bool, true, false}
+use lib.Dec.{eqb}
+use mir.Val.{bool_byte}
+use Rattle.refusals.specs.Laws.{number_not_0}
+use Rattle.lists.specs.Lists.{bit}
 use Rattle.frames.specs.Frames.{slot_at, top_frame}
 use Rattle.outcomes.specs.Store.{slot}
 use Rattle.outcomes.specs.Outcome.{Accepted}
@@ -7,17 +11,15 @@ use Rattle.outcomes.proofs.Laws.Steps.{by_refusal, by_effect}
 use Rattle.calls_about.proofs.Laws.{same_tests}
 use Rattle.calls_about.proofs.same_in.Goals as goal
 
-pub returns-then-g-ne0 : goal.returns-then-g-ne0
-returns-then-g-ne0 c s = by_refusal _ _ _ _ _ (same_tests _ _ _ ∙ sym c.top_refusal-g.ensures) c.if-g-ne0.true c.refused.ensures refl
+as_bit : (b : Bool) → bool_byte b ≡ bit b
+as_bit true = refl
+as_bit false = refl
 
-pub returns-then-x-y : goal.returns-then-x-y
-unfolding Accepted slot slot_at top_frame
-returns-then-x-y c s =
-    by_effect _ _ _ _ (same_tests _ _ _ ∙ sym c.top_refusal-g.ensures ∙ c.if-g-ne0.false)
-    (c.gives.ensures ∙ rw (← c.top_slot-x.ensures, ← c.top_slot-y.ensures, eq-eqb _ _ c.if-x-y.true), refl)
+pub returns-in-Err : goal.returns-in-Err
+returns-in-Err c s = by_refusal _ _ _ _ _ (same_tests _ _ _ ∙ sym c.in-Err.ensures) (number_not_0 _) c.refuses.ensures refl
 
 pub returns : goal.returns
 unfolding Accepted slot slot_at top_frame
 returns c s =
-    by_effect _ _ _ _ (same_tests _ _ _ ∙ sym c.top_refusal-g.ensures ∙ c.if-g-ne0.false)
-    (c.gives-2.ensures ∙ rw (← c.top_slot-x.ensures, ← c.top_slot-y.ensures, ne_eqb _ _ c.if-x-y.false), refl)
+    by_effect _ _ _ _ (same_tests _ _ _ ∙ sym c.in_default.ensures)
+    (c.gives.ensures ∙ rw (c.from.ensures, as_bit (eqb c.slot_of_top-x.result c.slot_of_top-y.result), c.slot_of_top-x.ensures, c.slot_of_top-y.ensures), refl)

@@ -1,8 +1,9 @@
-use mathlib.Core.Path.{◌≡◌, refl, sym, ap, ◌∙◌}
+use mathlib.Core.Path.{◌≡◌, refl, ap, ◌∙◌}
 use mathlib.Core.Bool.{Bool, true, false}
 use mathlib.Core.List.{List, [], ◌∷◌}
 use Prim.Native.Nat.{ℕ}
 use lib.ListN.{length}
+use mir.Val.{bool_byte}
 use Rattle.lists.specs.Lists.{bit}
 use Rattle.model.specs.Model.{Answer, audit, gives}
 use Rattle.regions.specs.Regions.{count_at}
@@ -19,19 +20,18 @@ never-refused : (S : Store) → refusal S audit ≡ 0
 unfolding refusal checks
 never-refused S = refl
 
--- what the tests come to is the answer: they have a copy of the shares
-answers : (s : State) (heap : List ℕ) (r : Answer) (p b : Bool) → length s.regions.names ≡ 64 → Shares s.regions.shares → p ≡ passes s.regions.shares s heap → p ≡ b → r ≡ gives (bit b ∷ 0 ∷ 0 ∷ 0 ∷ []) → Outcome audit (store s heap) r (store s heap)
-unfolding Accepted count_at
-answers s heap r p b names shares q e g =
-    let S = store s heap in
-    by_effect audit S r S (never-refused S) (g ∙ ap (λ b. gives (bit b ∷ [])) (sym e ∙ q ∙ passes_same S names s.regions.shares shares (λ i b. refl)), refl)
+number : (b : Bool) → bool_byte b ≡ bit b
+number true = refl
+number false = refl
 
-pub returns-then-sound : goal.returns-then-sound
-unfolding passes
-returns-then-sound c s =
-    answers _ _ _ _ true c.names_shaped.ensures c.shares_shaped.ensures c.passes-sound.ensures c.if-sound.true c.gives.ensures
+-- what the tests come to is the answer: they have a copy of the shares
+answers : (s : State) (heap : List ℕ) (r : Answer) (p : Bool) (n : ℕ) → length s.regions.names ≡ 64 → Shares s.regions.shares → p ≡ passes s.regions.shares s heap → n ≡ bit p → r ≡ gives (n ∷ 0 ∷ 0 ∷ 0 ∷ []) → Outcome audit (store s heap) r (store s heap)
+unfolding Accepted count_at
+answers s heap r p n names shares q e g =
+    let S = store s heap in
+    by_effect audit S r S (never-refused S) (g ∙ ap (λ n. gives (n ∷ [])) (e ∙ ap bit (q ∙ passes_same S names s.regions.shares shares (λ i b. refl))), refl)
 
 pub returns : goal.returns
 unfolding passes
 returns c s =
-    answers _ _ _ _ false c.names_shaped.ensures c.shares_shaped.ensures c.passes-sound.ensures c.if-sound.false c.gives-2.ensures
+    answers _ _ _ _ _ c.names_shaped.ensures c.shares_shaped.ensures c.passes-sound.ensures (c.from.ensures ∙ number c.passes-sound.result) c.gives.ensures

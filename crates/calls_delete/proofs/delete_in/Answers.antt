@@ -1,7 +1,11 @@
 use mathlib.Core.Path.{refl}
 use native.Mathlib.Omega.{arith}
+use borrow.Author.Rules.{rules}
+use Rattle.refusals.specs.Refusals.{number}
+use Rattle.refusals.specs.Laws.{number_not_0}
 use Rattle.frames.specs.Frames.{top_frame, raised}
 use Rattle.regions.specs.Regions.{with_shares, without_regions}
+use Rattle.regions.specs.Laws.Counts.{fits_shares}
 use Rattle.regions.specs.Laws.Entries.{entry_most}
 use Rattle.outcomes.proofs.Laws.Steps.{by_refusal}
 use Rattle.calls_delete.proofs.Laws.{delete_second, delete_effect}
@@ -11,14 +15,14 @@ pub overflow_add-tag : goal.overflow_add-tag
 overflow_add-tag c =
     omega (arith, c.entry_of-e.ensures, entry_most c.args.names.now c.args.region)
 
-pub returns-then-g-ne0 : goal.returns-then-g-ne0
-returns-then-g-ne0 c s = by_refusal _ _ _ _ _ (delete_second _ _ _ _ _ _ c.entry_of-e.ensures c.store_byte.ensures c.delete_refusal-g.ensures) c.if-g-ne0.true c.refused.ensures refl
+pub returns-in-Err : goal.returns-in-Err
+returns-in-Err c s = by_refusal _ _ _ _ (number c.in-Err.r) (delete_second _ _ _ _ _ _ c.entry_of-e.ensures (rw c.none-members.ensures at c.tick.ensures) c.in-Err.ensures) (number_not_0 c.in-Err.r) c.refuses.ensures refl
 
-pub overflow_cast-tag-2 : goal.overflow_cast-tag-2
-overflow_cast-tag-2 c = omega (arith, c.entry_of-e.ensures, entry_most c.args.names.now c.args.region)
+pub overflow_cast-tag : goal.overflow_cast-tag
+overflow_cast-tag c = omega (arith, c.entry_of-e.ensures, entry_most c.args.names.now c.args.region)
 
 pub returns : goal.returns
 unfolding raised top_frame with_shares without_regions
 returns c s =
-    delete_effect _ _ _ _ _ _ c.entry_of-e.ensures c.store_byte.ensures c.delete_refusal-g.ensures _ _ _ _ _ _ c.if-g-ne0.false c.gives.ensures c.shares_shaped.ensures c.owners_shaped.ensures
-    c.pages_of-number.ensures c.scan_held.ensures c.enter_frames.ensures c.give_back_one.ensures (rw c.top-raised.ensures) refl (rw c.put_word.ensures) refl refl
+    delete_effect _ _ _ _ _ _ c.entry_of-e.ensures (rw c.none-members.ensures at c.tick.ensures) c.in_default.ensures _ _ _ _ _ _ refl c.gives.ensures (fits_shares c.args.shares.now (search rules) (λ i. search rules)) (search rules)
+    c.pages_of-number.ensures c.scan_held.ensures c.enter_frames.ensures c.give_back_one.ensures (rw c.top-raised.ensures) refl (rw c.put.ensures) refl refl

@@ -24,9 +24,9 @@ unfolding blank
 opens n = refl
 
 pub returns-then-not-makes : goal.returns-then-not-makes
-returns-then-not-makes c = by-make _ _ _ false (sym c.makes.ensures ∙ c.if-not-makes.true) (c.refused.ensures, rw c.blank_in.ensures)
+returns-then-not-makes c = by-make _ _ _ false (sym c.makes.ensures ∙ c.if-not-makes.true) (c.refuses.ensures, rw c.blank_in.ensures)
 
 pub returns : goal.returns
 returns c =
     by-make _ _ _ true (sym c.makes.ensures ∙ c.if-not-makes.false)
-    (c.gives.ensures, ap₂ store (rw (c.put_byte.ensures, c.put_word.ensures) (ap (opened _) c.blank_in.ensures ∙ opens _)) c.clear.ensures)
+    (c.gives.ensures, ap₂ store (rw (c.put-2.ensures, c.put.ensures) (ap (opened _) c.blank_in.ensures ∙ opens _)) c.clear.ensures)

@@ -11,7 +11,4 @@ left widths slots owners tag n i = sum_of (λ i. times tag (targets_in widths sl
 -- with those left to look through it is the whole
 abbrev pub invariant-loop-i : goal.invariant-loop-i
 invariant-loop-i l =
-    (l.n ≡ frame_count_in l.standing) × (l.sum < 4294967296) × ((l.sum + left l.widths l.slots l.owners l.tag l.n l.i) % 4294967296 ≡ (l.stored + left l.widths l.slots l.owners l.tag l.n l.counted) % 4294967296)
-
-abbrev pub decreases-loop-i : goal.decreases-loop-i
-decreases-loop-i l = l.n - l.i
+    (l.n ≡ frame_count_in l.frames.standing) × (l.sum < 4294967296) × ((l.sum + left l.frames.widths.now l.frames.slots.now l.owners l.tag l.n l.i) % 4294967296 ≡ (l.stored + left l.frames.widths.now l.frames.slots.now l.owners l.tag l.n l.counted) % 4294967296)

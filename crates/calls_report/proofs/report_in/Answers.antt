@@ -1,4 +1,5 @@
 use Rattle.std.proofs.Common.{◌≡◌, ℕ, ◌+◌, ◌<◌, Bool, true, false, not, ltb, [], length, sym, refl, ◌∙◌, arith, ltb-true}
+use Rattle.refusals.specs.Laws.{number_not_0}
 use Rattle.lists.specs.Lists.{pick}
 use Rattle.model.specs.Model.{report}
 use Rattle.model.specs.Calls.{reason}
@@ -26,14 +27,14 @@ passed made n e z = go (wrong_length_in made n) (ltb e 64) refl z
     go false true q z = ltb-true e 64 q
     go false false q z = absurd (omega (arith, z))
 
-pub returns-then-g-ne0 : goal.returns-then-g-ne0
+pub returns-in-Err : goal.returns-in-Err
 unfolding entry_of
-returns-then-g-ne0 c s = by_refusal _ _ _ _ _ (refused-by _ _ _ _ c.entry_of-e.ensures c.region_refusal-g.ensures) c.if-g-ne0.true c.refused.ensures refl
+returns-in-Err c s = by_refusal _ _ _ _ _ (refused-by _ _ _ _ c.entry_of-e.ensures c.in-Err.ensures) (number_not_0 _) c.refuses.ensures refl
 
 pub returns : goal.returns
 unfolding Accepted tag_of entry_of count_at subregions_of pages_of outside_of slots_beyond
 returns c s =
-    let entry-low : c.entry_of-e.result < 64 = passed _ _ _ (sym c.region_refusal-g.ensures ∙ c.if-g-ne0.false) in
-    let tag_is : c.least-t.result + 1 ≡ c.entry_of-e.result + 1 = omega (arith, c.least-t.ensures, entry-low) in
-    by_effect _ _ _ _ (refused-by _ _ _ _ c.entry_of-e.ensures c.region_refusal-g.ensures ∙ c.if-g-ne0.false)
+    let entry-low : c.entry_of-e.result < 64 = passed _ _ _ (sym c.in_default.ensures) in
+    let tag_is : c.min-t.result + 1 ≡ c.entry_of-e.result + 1 = omega (arith, c.min-t.ensures, entry-low) in
+    by_effect _ _ _ _ (refused-by _ _ _ 0 c.entry_of-e.ensures c.in_default.ensures)
     (c.gives.ensures ∙ rw (c.outside-all.ensures, c.pages_of-held.ensures, c.subregions_of-below.ensures, tag_is, c.count_at-stored.ensures, c.entry_of-e.ensures), refl)

@@ -1,4 +1,5 @@
 use mathlib.Core.Path.{refl, sym, ◌∙◌}
+use Rattle.refusals.specs.Laws.{number_not_0}
 use Rattle.frames.specs.Frames.{put_slot, slot_at, top_frame}
 use Rattle.outcomes.specs.Store.{slot}
 use Rattle.outcomes.specs.Outcome.{Accepted, fill_slot}
@@ -6,11 +7,11 @@ use Rattle.outcomes.proofs.Laws.Steps.{by_refusal, by_effect}
 use Rattle.calls_slots.proofs.Laws.{copy_tests}
 use Rattle.calls_slots.proofs.copy_in.Goals as goal
 
-pub returns-then-g-ne0 : goal.returns-then-g-ne0
-returns-then-g-ne0 c s = by_refusal _ _ _ _ _ (copy_tests _ _ _ ∙ sym c.top_refusal-g.ensures) c.if-g-ne0.true c.refused.ensures refl
+pub returns-in-Err : goal.returns-in-Err
+returns-in-Err c s = by_refusal _ _ _ _ _ (copy_tests _ _ _ ∙ sym c.in-Err.ensures) (number_not_0 _) c.refuses.ensures refl
 
 pub returns : goal.returns
 unfolding Accepted fill_slot put_slot slot slot_at top_frame
 returns c s =
-    by_effect _ _ _ _ (copy_tests _ _ _ ∙ sym c.top_refusal-g.ensures ∙ c.if-g-ne0.false)
-    (c.gives.ensures, rw (c.put_slot.ensures, c.top.ensures, c.top_slot-v.ensures))
+    by_effect _ _ _ _ (copy_tests _ _ _ ∙ sym c.in_default.ensures)
+    (c.gives.ensures, rw (c.put_slot.ensures, c.top.ensures, c.slot_of_top-v.ensures))

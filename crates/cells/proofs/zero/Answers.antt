@@ -1,9 +1,5 @@
-use mathlib.Core.Path.{sym, ◌∙◌}
-use native.Mathlib.Omega.{arith}
-use lib.ListN.{replicate}
-use Rattle.cells.proofs.Laws.{sets_past}
+use Rattle.cells.proofs.Laws.{zeros_part}
 use Rattle.cells.proofs.zero.Goals as goal
 
 pub returns : goal.returns
-returns c =
-    sym (sets_past (replicate c.loop-i.k 0) c.loop-i.s c.loop-i.i (omega arith)) ∙ c.loop-i.invariant.1
+returns c = zeros_part _ _ _ _ _ _ c.min-a.ensures c.part_len.ensures c.clear.ensures

@@ -8,7 +8,7 @@ unfolding climb
 returns-then-level-eq0 t c = rw c.if-level-eq0.true
 
 pub returns-then-up-eq0 : goal.returns-then-up-eq0
-returns-then-up-eq0 t c = meets_end c.args.names.now _ c.args.n _ _ c.up_from-up.ensures c.args.level c.if-up-eq0.true
+returns-then-up-eq0 t c = meets_end c.args.regions.now.names.now _ c.args.n _ _ c.up_from-up.ensures c.args.level c.if-up-eq0.true
 
 pub returns-then-name_of-n : goal.returns-then-name_of-n
 returns-then-name_of-n t c = meets_here _ _ _ _ _ c.up_from-up.ensures _ c.if-level-eq0.false c.if-up-eq0.false (sym c.name_of.ensures ∙ c.if-name_of-n.true)

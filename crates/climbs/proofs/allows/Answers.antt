@@ -52,7 +52,7 @@ pub returns-then-m-eq3 : goal.returns-then-m-eq3
 unfolding above_in
 returns-then-m-eq3 c =
     let other-region : eqb c.name_of-to.result c.name_of-own.result ≡ false = ne_eqb _ _ c.if-to-own.false in
-    let climbs : c.is_above.result ≡ among c.name_of-to.result (above_in c.args.names.now c.args.parents.now c.args.levels.now c.args.h) = rw (← c.level_from.ensures) c.is_above.ensures in
+    let climbs : c.is_above.result ≡ among c.name_of-to.result (above_in c.args.regions.now.names.now c.args.regions.now.parents.now c.args.regions.now.levels.now c.args.h) = rw (← c.level_from.ensures) c.is_above.ensures in
     up-climb _ _ _ _ _ _ _ _ c.name_of-to.ensures c.name_of-own.ensures c.if-m-eq3.true other-region _ climbs
 
 pub returns-then-m-eq4 : goal.returns-then-m-eq4

@@ -5,8 +5,8 @@ use Rattle.regions.specs.Laws.Entries.{level_in_lem}
 use Rattle.climbs.proofs.level_from.Goals as goal
 
 -- the level that is kept, 16 at most
-sixteen : (c : goal.After-least) → c.least.result ≡ min c.level_at.result 16
-sixteen c = c.least.ensures
+sixteen : (c : goal.After-min) → c.min.result ≡ min c.level_at.result 16
+sixteen c = c.min.ensures
 
 pub returns-then-t-eq0 : goal.returns-then-t-eq0
 unfolding level_in

@@ -14,19 +14,19 @@ use Rattle.delete_parts.proofs.enter_frames.Goals as goal
 pub loop-i-init : goal.loop-i-init
 unfolding newly_in
 loop-i-init c =
-    let far : c.less-n.result ≡ frame_count_in c.args.standing - 1 = c.less-n.ensures ∙ ap (λ n. n - 1) c.frame_count.ensures in
+    let far : c.saturating_sub-n.result ≡ frame_count_in c.args.frames.now.standing - 1 = c.saturating_sub-n.ensures ∙ ap (λ n. n - 1) c.frame_count.ensures in
     (far, refl, refl)
 
 pub loop-i-preserved : goal.loop-i-preserved
 loop-i-preserved c =
-    let g : ℕ → List ℕ = targets_in c.args.widths.now c.args.slots.now c.args.owners.now in
-    let n = frame_count_in c.args.standing - 1 in (
+    let g : ℕ → List ℕ = targets_in c.args.frames.now.widths.now c.args.frames.now.slots.now c.args.owners.now in
+    let n = frame_count_in c.args.frames.now.standing - 1 in (
       c.loop-i.invariant.0,
-      ap length c.enter_frame.ensures ∙ steps_length 1 _ c.loop-i.shares (g c.loop-i.i) ∙ c.loop-i.invariant.1,
-      rw (c.enter_frame.ensures, steps_append 1 c.args.filler c.loop-i.shares (g c.loop-i.i) (joined g (from (c.loop-i.i + 1) (n - (c.loop-i.i + 1))))) (rw (from_next c.loop-i.i n (omega arith)) at c.loop-i.invariant.2),
+      ap length c.step_slots.ensures ∙ steps_length 1 _ c.loop-i.shares (g c.loop-i.i) ∙ c.loop-i.invariant.1,
+      rw (c.step_slots.ensures, steps_append 1 c.args.filler c.loop-i.shares (g c.loop-i.i) (joined g (from (c.loop-i.i + 1) (n - (c.loop-i.i + 1))))) (rw (from_next c.loop-i.i n (omega arith)) at c.loop-i.invariant.2),
     )
 
 pub returns : goal.returns
 unfolding steps
 returns c =
-    rw (from_end c.loop-i.i (frame_count_in c.args.standing - 1) (omega arith)) at c.loop-i.invariant.2
+    rw (from_end c.loop-i.i (frame_count_in c.args.frames.now.standing - 1) (omega arith)) at c.loop-i.invariant.2

@@ -11,8 +11,5 @@ use Rattle.delete_parts.proofs.enter_frames.Given as goal
 -- when the frames left enter too, all have entered
 abbrev pub invariant-loop-i : goal.invariant-loop-i
 invariant-loop-i l =
-    (l.n ≡ frame_count_in l.standing - 1) × (length l.shares ≡ length l.initial.shares)
-    × (enterings l.filler l.shares (joined (targets_in l.widths l.slots l.owners) (from l.i (frame_count_in l.standing - 1 - l.i))) ≡ enterings l.filler l.initial.shares (newly_in l.standing l.counted l.widths l.slots l.owners))
-
-abbrev pub decreases-loop-i : goal.decreases-loop-i
-decreases-loop-i l = l.n - l.i
+    (l.n ≡ frame_count_in l.frames.standing - 1) × (length l.shares ≡ length l.initial.shares)
+    × (enterings l.filler l.shares (joined (targets_in l.frames.widths.now l.frames.slots.now l.owners) (from l.i (frame_count_in l.frames.standing - 1 - l.i))) ≡ enterings l.filler l.initial.shares (newly_in l.frames.standing l.counted l.frames.widths.now l.frames.slots.now l.owners))

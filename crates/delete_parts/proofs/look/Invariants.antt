@@ -1,7 +1,7 @@
 use mathlib.Core.Path.{◌≡◌, ◌∙◌}
 use mathlib.Core.Bool.{Bool, true, false}
 use mathlib.Core.List.{List}
-use Prim.Native.Nat.{ℕ, ◌-◌, ◌≤◌, ◌<◌}
+use Prim.Native.Nat.{ℕ, ◌-◌, ◌<◌}
 use Rattle.lists.specs.Lists.{any_of, from, up_to}
 use Rattle.lists.specs.Laws.Finds.{any_map}
 use Rattle.lists.specs.Laws.UpTo.{any_one, none_any}
@@ -31,15 +31,9 @@ module _ (widths slots owners members : List ℕ) (i : ℕ) where
 
 -- no slot passed of the frame leads into a member
 abbrev pub invariant-loop-k : goal.invariant-loop-k
-invariant-loop-k l = (l.found ≡ false) × (l.w ≡ width_in l.widths l.i) × (l.k ≤ l.w) × ((j : ℕ) → j < l.k → into l.widths l.slots l.owners l.members l.i j ≡ false)
-
-abbrev pub decreases-loop-k : goal.decreases-loop-k
-decreases-loop-k l = l.w - l.k
+invariant-loop-k l = (l.found ≡ false) × (l.w ≡ width_in l.frames.widths.now l.i) × ((j : ℕ) → j < l.k → into l.frames.widths.now l.frames.slots.now l.owners l.members.ticks l.i j ≡ false)
 
 -- the frames left lead into a member exactly if all uncounted frames do
 abbrev pub invariant-look : goal.invariant-look
 invariant-look l =
-    (l.found ≡ false) × (l.n ≡ frame_count_in l.standing) × (any_of (leads l.widths l.slots l.owners l.members) (from l.i (frame_count_in l.standing - l.i)) ≡ led_among_in l.standing l.counted l.widths l.slots l.owners (tick_at l.members))
-
-abbrev pub decreases-look : goal.decreases-look
-decreases-look l = l.n - l.i
+    (l.found ≡ false) × (l.n ≡ frame_count_in l.frames.standing) × (any_of (leads l.frames.widths.now l.frames.slots.now l.owners l.members.ticks) (from l.i (frame_count_in l.frames.standing - l.i)) ≡ led_among_in l.frames.standing l.counted l.frames.widths.now l.frames.slots.now l.owners (tick_at l.members.ticks))

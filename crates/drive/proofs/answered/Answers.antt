@@ -14,5 +14,5 @@ loop-from-preserved g c =
     let chunk = c.args.chunk.now in
     let n = c.loop-from.from in
     let rest : length (take (length chunk - n) (drop n chunk)) ≡ length chunk - n = omega (arith, length-take (length chunk - n) (drop n chunk), length-drop n chunk) in
-    let more = c.feed-u.ensures.scripted (memory ∙ c.requires.0) (line ∙ c.requires.1) in
-    (search rules, search rules, search rules, omega (arith, c.feed-u.ensures.fed.within, rest, from), (_, fed_more _ _ _ _ n _ _ _ fed more))
+    let more = c.feed-t.ensures.scripted (memory ∙ c.requires.0) (line ∙ c.requires.1) in
+    (search rules, search rules, search rules, omega (arith, c.feed-t.ensures.fed.within, rest, from), (_, fed_more _ _ _ _ n _ _ _ fed more))

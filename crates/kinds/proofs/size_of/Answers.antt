@@ -4,7 +4,7 @@ use Rattle.kinds.proofs.size_of.Goals as goal
 
 pub returns-then-n-kind_count : goal.returns-then-n-kind_count
 unfolding size_in
-returns-then-n-kind_count c = rw (← c.kind_count.ensures, ← c.byte.ensures, ← c.least.ensures) (simp (lt-ltb _ _ c.if-n-gt0.true, le-leb _ _ c.if-n-kind_count.true))
+returns-then-n-kind_count c = rw (← c.kind_count.ensures, ← c.get.ensures, ← c.min.ensures) (simp (lt-ltb _ _ c.if-n-gt0.true, le-leb _ _ c.if-n-kind_count.true))
 
 pub returns-else-n-kind_count : goal.returns-else-n-kind_count
 unfolding size_in

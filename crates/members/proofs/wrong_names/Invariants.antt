@@ -1,6 +1,5 @@
 use mathlib.Core.Path.{◌≡◌}
-use Prim.Native.Nat.{◌-◌}
-use lib.ListN.{length, drop}
+use lib.ListN.{drop}
 use Rattle.lists.specs.Lists.{repeats}
 use Rattle.model.specs.Calls.{wrong_names}
 use Rattle.members.proofs.wrong_names.Given as goal
@@ -8,6 +7,3 @@ use Rattle.members.proofs.wrong_names.Given as goal
 -- what is left decides
 abbrev pub invariant-loop-i : goal.invariant-loop-i
 invariant-loop-i l = repeats (drop l.i l.list) ≡ wrong_names l.list
-
-abbrev pub decreases-loop-i : goal.decreases-loop-i
-decreases-loop-i l = length l.list - l.i

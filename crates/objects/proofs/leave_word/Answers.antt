@@ -6,7 +6,7 @@ use Rattle.objects.proofs.leave_word.Goals as goal
 pub returns-then-t-own : goal.returns-then-t-own
 unfolding out_of steps
 returns-then-t-own c =
-    rw (← c.owner_of-t.ensures, ne_eqb _ _ c.if-t-own.true) c.leave.ensures
+    rw (← c.owner_of-t.ensures, ne_eqb _ _ c.if-t-own.true) c.step.ensures
 
 pub returns-else-t-own : goal.returns-else-t-own
 unfolding out_of steps

@@ -13,15 +13,13 @@ use Rattle.objects.proofs.leave_words.Goals.{else-mark_at-eq1, then-mark_at-eq1}
 
 pub loop-w-init : goal.loop-w-init
 unfolding out_of free_words_in steps
-loop-w-init c = (search rules, refl)
+loop-w-init c = refl
 
 pub loop-w-preserved : goal.loop-w-preserved
 loop-w-preserved c =
-    let m = c.mark_at.ensures ∙ ap (λ k₁. mark_in c.args.marks.now k₁ c.loop-w.w) c.kind_of-kind.ensures in (
-      omega arith,
-      elim c.if-mark_at-eq1.branch [
-        | then-mark_at-eq1 w ↦ rw (free_one c.args.marks.now c.args.object.now c.loop-w.w (sym m ∙ w.if-mark_at-eq1.true), ← left_left c.args.owners.now c.args.own c.args.filler c.args.shares.now (free_words_in c.args.marks.now c.args.object.now c.loop-w.w) (word_in c.args.object.now c.loop-w.w ∷ []), ← c.loop-w.invariant.1)
-            (w.shares-is ∙ w.leave_word.ensures ∙ ap (λ v. leavings c.args.filler c.loop-w.shares (out_of c.args.owners.now c.args.own (v ∷ []))) w.word_at.ensures)
-        | else-mark_at-eq1 w ↦ rw (free_not c.args.marks.now c.args.object.now c.loop-w.w (λ q. w.if-mark_at-eq1.false (m ∙ q))) (w.shares-is ∙ c.loop-w.invariant.1)
-      ],
-    )
+    let m = c.mark_at.ensures ∙ ap (λ k₁. mark_in c.args.kinds.now.marks.now k₁ c.loop-w.w) c.kind_of-kind.ensures in
+    elim c.if-mark_at-eq1.branch [
+      | then-mark_at-eq1 w ↦ rw (free_one c.args.kinds.now.marks.now c.args.object.now c.loop-w.w (sym m ∙ w.if-mark_at-eq1.true), ← left_left c.args.owners.now c.args.own c.args.filler c.args.shares.now (free_words_in c.args.kinds.now.marks.now c.args.object.now c.loop-w.w) (word_in c.args.object.now c.loop-w.w ∷ []), ← c.loop-w.invariant)
+          (w.shares-is ∙ w.leave_word.ensures ∙ ap (λ v. leavings c.args.filler c.loop-w.shares (out_of c.args.owners.now c.args.own (v ∷ []))) w.word_at.ensures)
+      | else-mark_at-eq1 w ↦ rw (free_not c.args.kinds.now.marks.now c.args.object.now c.loop-w.w (λ q. w.if-mark_at-eq1.false (m ∙ q))) (w.shares-is ∙ c.loop-w.invariant)
+    ]

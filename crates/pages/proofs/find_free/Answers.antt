@@ -11,10 +11,10 @@ use Rattle.pages.proofs.find_free.Goals as goal
 pub returns-then-owner_at-eq0 : goal.returns-then-owner_at-eq0
 unfolding first_free_in
 returns-then-owner_at-eq0 c =
-    sym (find_first (λ j. eqb (get_or c.args.owners.now j 0) 0) (min c.args.made 256) (min c.args.made 256) c.loop-j.j (omega arith) (eq-eqb _ _ (sym c.owner_at.ensures ∙ c.if-owner_at-eq0.true)) c.loop-j.invariant.2)
+    sym (find_first (λ j. eqb (get_or c.args.owners.now j 0) 0) (min c.args.made 256) (min c.args.made 256) c.loop-j.j (omega arith) (eq-eqb _ _ (sym c.owner_at.ensures ∙ c.if-owner_at-eq0.true)) c.loop-j.invariant.1)
 
 pub returns : goal.returns
 unfolding first_free_in
 returns c =
     let e : c.loop-j.j ≡ min c.args.made 256 = omega arith in
-    e ∙ sym (find_default (λ j. eqb (get_or c.args.owners.now j 0) 0) (min c.args.made 256) (min c.args.made 256) (rw e at c.loop-j.invariant.2))
+    c.page_count-n.ensures ∙ sym (find_default (λ j. eqb (get_or c.args.owners.now j 0) 0) (min c.args.made 256) (min c.args.made 256) (rw e at c.loop-j.invariant.1))

@@ -8,4 +8,4 @@ returns-then-v-eq0 c = simp (eq-eqb _ _ c.if-v-eq0.true)
 
 pub returns : goal.returns
 unfolding owner_in
-returns c = rw (← c.byte.ensures) (simp (ne_eqb _ _ c.if-v-eq0.false))
+returns c = rw (← c.get.ensures) (simp (ne_eqb _ _ c.if-v-eq0.false))

@@ -1,9 +1,7 @@
-use Rattle.std.proofs.Common.{◌∙◌}
 use Rattle.regions.specs.Regions.{count_in}
 use Rattle.regions.specs.Laws.Counts.{pairs_added}
 use Rattle.regions.proofs.count_at.Goals as goal
 
 pub returns : goal.returns
 unfolding count_in
-returns c =
-    c.plus.ensures ∙ rw (c.plus-b.ensures, c.plus-a.ensures, c.share_at-4.ensures, c.share_at-3.ensures, c.share_at-2.ensures, c.share_at.ensures) (pairs_added _ _ _ _)
+returns c = rw (c.share_at-4.ensures, c.share_at-3.ensures, c.share_at-2.ensures, c.share_at.ensures) (pairs_added _ _ _ _)

@@ -1,36 +1,46 @@
 use Prim.Native.Nat.{◌-◌, ◌<◌}
-use mathlib.Core.Path.{◌≡◌, ◌∙◌}
+use mathlib.Core.Path.{◌≡◌, sym, ◌∙◌}
+use mathlib.Core.Bool.{false≢true}
+use native.Mathlib.Omega.{arith}
+use borrow.Author.Rules.{rules}
+use borrow.Author.Tests.{eqb-true, eq-eqb}
+use lib.Dec.{eqb}
 use lib.ListN.{get_or, take, drop}
-use Rattle.script.specs.Script.{no_number, tokens, value, fillers, call_of, line, bad, called, acting}
+use Rattle.script.specs.Script.{no_number, tokens, value, fillers, call_of, called, acting}
+use Rattle.script.specs.Found.{or_bad}
 use Rattle.script.specs.Laws.Lines.{acting_odd, acting_alone, acting_call, acting_other}
 use Rattle.scanner.proofs.acting.Goals as goal
 
-pub returns-then-to-from : goal.returns-then-to-from
-unfolding line bad acting
-returns-then-to-from c = c.bare.ensures ∙ rw (c.word-p.ensures.ends c.if-to-from.true)
+pub returns-in_err-p : goal.returns-in_err-p
+unfolding acting
+returns-in_err-p c = rw (c.from_residual.ensures, c.in_err-p.ensures)
 
-pub returns-then-f-ge4294967296 : goal.returns-then-f-ge4294967296
-unfolding line bad
-returns-then-f-ge4294967296 c =
-    rw (c.word-p.ensures.follows c.if-to-from.false) (c.bare-then-f-ge4294967296.ensures ∙ acting_odd _ _ _ (rw c.number-f.ensures at c.if-f-ge4294967296.true))
+pub returns-in_err-filler : goal.returns-in_err-filler
+returns-in_err-filler c =
+    rw (c.from_residual-in_err-filler.ensures, c.in_ok-p.ensures.1.follows c.in_ok-p.ensures.0) (acting_odd _ _ _ (omega (arith, c.in_err-filler.ensures)))
 
-pub returns-then-end-begin : goal.returns-then-end-begin
-unfolding line bad
-returns-then-end-begin c =
-    rw (c.word-p.ensures.follows c.if-to-from.false, c.word-q.ensures.ends c.if-end-begin.true) (c.bare-then-end-begin.ensures ∙ acting_alone _ _)
+pub returns-in_err-q : goal.returns-in_err-q
+returns-in_err-q c =
+    rw (c.from_residual-in_err-q.ensures, c.in_ok-p.ensures.1.follows c.in_ok-p.ensures.0, c.in_err-q.ensures) (acting_alone _ _)
 
-pub returns-then-names_filler-eq1 : goal.returns-then-names_filler-eq1
-returns-then-names_filler-eq1 c =
-    let small : c.number-f.result < no_number = c.if-f-ge4294967296.false in
-    let tested : c.names_filler.result ≡ get_or fillers (call_of (take (c.word-q.result.to - c.word-q.result.from) (drop c.word-q.result.from c.args.s.now))) 0 = rw (← c.call_of-n.ensures) c.names_filler.ensures in
-    let for-filler : c.called.result ≡ called c.args.stage (value (take (c.word-p.result.to - c.word-p.result.from) (drop c.word-p.result.from c.args.s.now))) (take (c.word-q.result.to - c.word-q.result.from) (drop c.word-q.result.from c.args.s.now)) (tokens (drop c.word-q.result.to c.args.s.now)) = rw (← c.number-f.ensures) (c.called.ensures _ c.call_of-n.ensures) in
-    rw (c.word-p.ensures.follows c.if-to-from.false, c.word-q.ensures.follows c.if-end-begin.false)
-    (for-filler ∙ acting_call _ _ _ _ (rw c.number-f.ensures at small) (rw tested at c.if-names_filler-eq1.true))
+pub returns-in_err-n : goal.returns-in_err-n
+unfolding fillers
+returns-in_err-n c =
+    let small : c.in_ok-filler.filler < no_number = search rules in
+    rw (c.from_residual-in_err-n.ensures, c.in_ok-p.ensures.1.follows c.in_ok-p.ensures.0, c.in_ok-q.ensures.1.follows c.in_ok-q.ensures.0)
+    (acting_other _ _ _ _ (rw c.in_ok-filler.ensures at small) (λ e. let zero = rw (← c.in_err-n.ensures) at e in absurd (omega (arith, zero))))
 
-pub returns-else-names_filler-eq1 : goal.returns-else-names_filler-eq1
-unfolding line bad
-returns-else-names_filler-eq1 c =
-    let small : c.number-f.result < no_number = c.if-f-ge4294967296.false in
-    let tested : c.names_filler.result ≡ get_or fillers (call_of (take (c.word-q.result.to - c.word-q.result.from) (drop c.word-q.result.from c.args.s.now))) 0 = rw (← c.call_of-n.ensures) c.names_filler.ensures in
-    rw (c.word-p.ensures.follows c.if-to-from.false, c.word-q.ensures.follows c.if-end-begin.false)
-    (c.bare-else-names_filler-eq1.ensures ∙ acting_other _ _ _ _ (rw c.number-f.ensures at small) (rw tested at c.if-names_filler-eq1.false))
+pub returns-then-names_filler : goal.returns-then-names_filler
+returns-then-names_filler c =
+    let small : c.in_ok-filler.filler < no_number = search rules in
+    let tested : c.names_filler.result ≡ eqb (get_or fillers (call_of (take (c.in_ok-q.q.to - c.in_ok-q.q.from) (drop c.in_ok-q.q.from c.args.s.now))) 0) 1 = rw (← c.in_ok-n.ensures) c.names_filler.ensures in
+    let for-filler : or_bad c.called.result ≡ called c.args.stage (value (take (c.in_ok-p.p.to - c.in_ok-p.p.from) (drop c.in_ok-p.p.from c.args.s.now))) (take (c.in_ok-q.q.to - c.in_ok-q.q.from) (drop c.in_ok-q.q.from c.args.s.now)) (tokens (drop c.in_ok-q.q.to c.args.s.now)) = rw (← c.in_ok-filler.ensures) (c.called.ensures _ c.in_ok-n.ensures) in
+    rw (c.in_ok-p.ensures.1.follows c.in_ok-p.ensures.0, c.in_ok-q.ensures.1.follows c.in_ok-q.ensures.0)
+    (for-filler ∙ acting_call _ _ _ _ (rw c.in_ok-filler.ensures at small) (eqb-true _ _ (rw tested at c.if-names_filler.true)))
+
+pub returns-else-names_filler : goal.returns-else-names_filler
+returns-else-names_filler c =
+    let small : c.in_ok-filler.filler < no_number = search rules in
+    let tested : c.names_filler.result ≡ eqb (get_or fillers (call_of (take (c.in_ok-q.q.to - c.in_ok-q.q.from) (drop c.in_ok-q.q.from c.args.s.now))) 0) 1 = rw (← c.in_ok-n.ensures) c.names_filler.ensures in
+    rw (c.in_ok-p.ensures.1.follows c.in_ok-p.ensures.0, c.in_ok-q.ensures.1.follows c.in_ok-q.ensures.0)
+    (acting_other _ _ _ _ (rw c.in_ok-filler.ensures at small) (λ e. false≢true (sym c.if-names_filler.false ∙ tested ∙ eq-eqb _ _ e)))

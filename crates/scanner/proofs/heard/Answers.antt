@@ -1,10 +1,21 @@
-use Rattle.script.specs.Script.{heard}
+use Rattle.std.proofs.Common.{◌≡◌, ◌∙◌, ap}
+use Rattle.lists.specs.Lists.{pick}
+use Rattle.script.specs.Script.{line, bad, unmarked, fitting, heard}
 use Rattle.scanner.proofs.heard.Goals as goal
+use Rattle.scanner.proofs.heard.Goals.{then-first, else-first}
 
-pub returns-then-first : goal.returns-then-first
+pub returns-in-Some : goal.returns-in-Some
 unfolding heard
-returns-then-first c = rw (c.if-first.true, ← c.unmarked.ensures) c.fitting.ensures
+returns-in-Some c =
+    let text : c.if-first.text.now ≡ pick c.args.first (unmarked c.args.s.now) c.args.s.now =
+    elim c.if-first.branch [ then-first w ↦ rw (w.if-first.true, w.text-is) w.unmarked-text.ensures | else-first w ↦ rw (w.if-first.false, w.text-is) ]
+    in
+    c.in-Some.ensures ∙ ap (fitting c.args.stage) text
 
-pub returns-else-first : goal.returns-else-first
-unfolding heard
-returns-else-first c = rw c.if-first.false c.fitting-else-first.ensures
+pub returns-in-None : goal.returns-in-None
+unfolding line bad heard
+returns-in-None c =
+    let text : c.if-first.text.now ≡ pick c.args.first (unmarked c.args.s.now) c.args.s.now =
+    elim c.if-first.branch [ then-first w ↦ rw (w.if-first.true, w.text-is) w.unmarked-text.ensures | else-first w ↦ rw (w.if-first.false, w.text-is) ]
+    in
+    c.bare.ensures ∙ c.in-None.ensures ∙ ap (fitting c.args.stage) text

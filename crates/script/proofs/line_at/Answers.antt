@@ -6,8 +6,8 @@ use Rattle.script.proofs.line_at.Goals as goal
 
 pub slice_bounds-result-end-2 : goal.slice_bounds-result-end-2
 slice_bounds-result-end-2 c =
-    omega (arith, c.past-end.ensures, front_length (of_class 2) (drop c.args.at c.args.s.now), length-drop c.args.at c.args.s.now)
+    omega (arith, c.line_end.ensures, front_length (of_class 2) (drop c.args.at c.args.s.now), length-drop c.args.at c.args.s.now)
 
 pub returns : goal.returns
 returns c =
-    line_at c.args.s.now c.args.at _ (omega arith) c.past-end.ensures
+    line_at c.args.s.now c.args.at _ (omega arith) c.line_end.ensures

@@ -1,7 +1,6 @@
-use Rattle.script.specs.Script.{fillers}
+use Rattle.std.proofs.Common.{◌∙◌}
+use Rattle.script.specs.Laws.Lines.{filler_calls}
 use Rattle.script.proofs.names_filler.Goals as goal
 
--- the numbers of the code are those of the table
 pub returns : goal.returns
-unfolding fillers
-returns c = c.byte.ensures
+returns c = c.contains.ensures.value ∙ filler_calls c.args.n

@@ -1,35 +1,35 @@
-use Prim.Native.Nat.{◌+◌}
-use mathlib.Core.Path.{sym, ◌∙◌}
-use borrow.Author.Rules.{rules}
-use native.Mathlib.Omega.{arith}
-use lib.ListN.{drop}
-use Rattle.script.specs.Laws.Numbers.{value_empty, value_digits, valued_great, valued_end, valued_next, valued_below, valued_above}
+use Rattle.std.proofs.Common.{◌≡◌, ◌+◌, ◌*◌, ◌≤◌, sym, ◌∙◌, arith, rules, lit<}
+use mathlib.Core.Bool.{false≢true}
+use borrow.Author.Tests.{eqb-true, eq-eqb}
+use Rattle.script.specs.Script.{no_number}
+use Rattle.script.specs.Laws.Numbers.{value_empty, value_digits, valued_end, valued_odd, valued_read, valued_over}
 use Rattle.script.proofs.number.Goals as goal
 
-pub returns-then-w-eq0 : goal.returns-then-w-eq0
-returns-then-w-eq0 c = value_empty c.args.w.now c.if-w-eq0.true
+pub returns-then-is_empty : goal.returns-then-is_empty
+returns-then-is_empty c = value_empty c.args.w.now (eqb-true _ _ (search rules))
 
-pub loop-i-init : goal.loop-i-init
-loop-i-init c = (search rules, search rules, value_digits c.args.w.now c.if-w-eq0.false)
+pub loop-b-init : goal.loop-b-init
+loop-b-init c = (lit< tt, value_digits c.args.w.now (λ e. false≢true (sym c.if-is_empty.false ∙ c.is_empty.ensures ∙ eq-eqb _ _ e)))
 
-pub returns-then-b-lt48 : goal.returns-then-b-lt48
-returns-then-b-lt48 c =
-    valued_below c.loop-i.v c.args.w.now c.loop-i.i (omega arith) c.if-b-lt48.true ∙ c.loop-i.invariant.2
+pub returns-in_err-d : goal.returns-in_err-d
+returns-in_err-d c =
+    rw c.from_residual.ensures (valued_odd c.loop-b.v c.args.w.now c.loop-b.b-index (omega arith) c.in_err-d.ensures ∙ c.loop-b.invariant.1)
 
-pub returns-then-b-gt57 : goal.returns-then-b-gt57
-returns-then-b-gt57 c =
-    valued_above c.loop-i.v c.args.w.now c.loop-i.i (omega arith) c.if-b-gt57.true ∙ c.loop-i.invariant.2
+pub returns-in_err-checked_mul : goal.returns-in_err-checked_mul
+returns-in_err-checked_mul c =
+    let over : no_number ≤ c.loop-b.v * 10 + c.in_ok-d.d = omega (arith, c.in_err-checked_mul.ensures) in
+    rw c.from_residual-in_err-checked_mul.ensures (valued_over c.loop-b.v c.args.w.now c.loop-b.b-index (omega arith) c.in_ok-d.ensures.0 _ c.in_ok-d.ensures.1 over ∙ c.loop-b.invariant.1)
 
-pub returns-then-v-gt4294967295 : goal.returns-then-v-gt4294967295
-returns-then-v-gt4294967295 c =
-    valued_great _ (drop (c.loop-i.i + 1) c.args.w.now) c.if-v-gt4294967295.true
-    ∙ sym (valued_next c.loop-i.v c.args.w.now c.loop-i.i (omega arith) c.if-b-lt48.false c.if-b-gt57.false)
-    ∙ c.loop-i.invariant.2
+pub returns-in_err-v : goal.returns-in_err-v
+returns-in_err-v c =
+    let over : no_number ≤ c.loop-b.v * 10 + c.in_ok-d.d = omega (arith, c.in_ok-checked_mul.ensures, c.in_err-v.ensures) in
+    rw c.from_residual-in_err-v.ensures (valued_over c.loop-b.v c.args.w.now c.loop-b.b-index (omega arith) c.in_ok-d.ensures.0 _ c.in_ok-d.ensures.1 over ∙ c.loop-b.invariant.1)
 
-pub loop-i-preserved : goal.loop-i-preserved
-loop-i-preserved c =
-    (omega arith, omega arith, sym (valued_next c.loop-i.v c.args.w.now c.loop-i.i (omega arith) c.if-b-lt48.false c.if-b-gt57.false) ∙ c.loop-i.invariant.2)
+pub loop-b-preserved : goal.loop-b-preserved
+loop-b-preserved c =
+    let read : c.in_ok-v.v ≡ c.loop-b.v * 10 + c.in_ok-d.d = omega (arith, c.in_ok-checked_mul.ensures, c.in_ok-v.ensures) in
+    (omega (arith, c.in_ok-v.ensures), rw read (valued_read c.loop-b.v c.args.w.now c.loop-b.b-index (omega arith) c.in_ok-d.ensures.0 _ c.in_ok-d.ensures.1 ∙ c.loop-b.invariant.1))
 
 pub returns : goal.returns
 returns c =
-    valued_end c.loop-i.v c.args.w.now c.loop-i.i (omega arith) (omega arith) ∙ c.loop-i.invariant.2
+    valued_end c.loop-b.v c.args.w.now c.loop-b.b-index (omega arith) (omega arith) ∙ c.loop-b.invariant.1

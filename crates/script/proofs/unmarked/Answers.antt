@@ -1,13 +1,16 @@
-use mathlib.Core.Path.{sym, ◌∙◌}
-use mathlib.Core.Bool.{false≢true}
-use Rattle.script.specs.Laws.Lines.{unmarked_mark, unmarked_other, unmarked_short}
+use mathlib.Core.Path.{◌≡◌}
+use mathlib.Core.Bool.{true}
+use lib.Dec.{eqb}
+use lib.ListN.{take}
+use lib.Pointwise.{pointwise}
+use Rattle.script.specs.Script.{mark}
+use Rattle.script.specs.Laws.Lines.{unmarked_rest, unmarked_whole}
 use Rattle.script.proofs.unmarked.Goals as goal
 
-pub returns-then-s-lt3 : goal.returns-then-s-lt3
-returns-then-s-lt3 c = unmarked_short _ c.if-s-lt3.true
+pub returns-in-Some : goal.returns-in-Some
+returns-in-Some c =
+    let skipped : pointwise eqb (take 3 c.args.s.now) mark ≡ true = c.in-Some.ensures.cases.0 in
+    unmarked_rest _ _ skipped c.in-Some.ensures.cases.1
 
-pub returns-then-same : goal.returns-then-same
-returns-then-same c = unmarked_mark _ (c.same.ensures.0 c.if-same.true)
-
-pub returns : goal.returns
-returns c = unmarked_other _ (λ e. false≢true (sym c.if-same.false ∙ c.same.ensures.1 e))
+pub returns-in-None : goal.returns-in-None
+returns-in-None c = unmarked_whole _ c.in-None.ensures.cases

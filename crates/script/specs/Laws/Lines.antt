@@ -1,18 +1,21 @@
 -- Laws of the table of names, of the arguments, one by one, and of a filler in front of a call.
 -- Assumes nothing.
-use Rattle.std.specs.Prelude.{◌≡◌, refl, Bool, true, false, ◌&&◌, List, [], ◌∷◌, map, ltb, leb, get_or, set, take, drop}
+use Rattle.std.specs.Prelude.{◌≡◌, refl, Bool, true, false, not, ◌&&◌, List, [], ◌∷◌, map, ltb, leb, get_or, set, take, drop}
 use Rattle.std.proofs.Common.{sym, ap, subst, ◌∙◌, inl, add-one, length-take}
 use Rattle.std.proofs.Math.Bool.{and-false}
 use Prim.Native.Nat.{ℕ, suc, ◌+◌, ◌-◌, ◌≤◌, ◌<◌}
 use native.Mathlib.Omega.{arith}
 use Rattle.std.proofs.Math.Dec.{eqb}
-use Rattle.std.proofs.Math.ListN.{length, length-drop}
+use Rattle.std.proofs.Math.ListN.{length, length-drop, get_or-eq_default}
 use Rattle.std.proofs.lemmas.List.Edits.{sets}
 use Rattle.std.proofs.Math.Seq.{take-length}
-use borrow.Author.Tests.{eqb-true, ltb-true, leb-true, eq-eqb, ne_eqb, le-leb, lt-leb, lt-ltb, le-ltb}
-use Rattle.lists.specs.Lists.{pick, every, equal}
+use borrow.Author.Tests.{eqb-true, ltb-true, ltb-false, leb-true, eq-eqb, ne_eqb, le-leb, lt-leb, lt-ltb, le-ltb}
+use Rattle.std.specs.List.{list_any}
+use Rattle.std.specs.Cmp.Lexicographic.{pointwise}
+use Rattle.lists.specs.Lists.{pick, every, equal, up_to}
 use Rattle.lists.specs.Laws.Every.{equal_is, equal_self}
 use Rattle.lists.specs.Laws.Tests.{both, by_test, pick_same}
+use Rattle.lists.specs.Laws.UpTo.{every_each}
 use Rattle.lists.specs.Laws.Sets.{get_d_sets_out}
 use Rattle.script.specs.declared.Line.{Line}
 use Rattle.script.specs.Script.{bytes, tokens, value, no_number, known, last_call, names, word_names, fillers, placed, named, call_of, takes, allowed, line, zeros, bad, given, called, acting, said, scanned, mark, unmarked, longest_line, fitting, heard}
@@ -35,6 +38,42 @@ placed_below n w (v ∷ vs) = go (equal eqb w v) (placed_below (suc n) w vs)
     go : (t : Bool) → placed (suc n) w vs ≤ suc n + length vs → pick t n (placed (suc n) w vs) ≤ n + suc (length vs)
     go true h = omega arith
     go false h = omega arith
+
+-- ---- the calls that a filler may be named in front of
+
+fills : ℕ → Bool
+fills n = list_any (λ m. eqb m n) (6 ∷ 7 ∷ 14 ∷ 23 ∷ 24 ∷ [])
+
+fills_as : ℕ → Bool
+fills_as n = pick (fills n) (eqb (get_or fillers n 0) 1) (not (eqb (get_or fillers n 0) 1))
+
+-- by computation, up to the last call
+fills_all : every fills_as (up_to (last_call + 1)) ≡ true
+unfolding fills fills_as fillers
+fills_all = refl
+
+fills_none : (n : ℕ) → last_call < n → fills n ≡ false
+unfolding fills
+fills_none n h =
+    rw (ne_eqb 6 n (λ e. absurd (omega (arith, e))), ne_eqb 7 n (λ e. absurd (omega (arith, e))), ne_eqb 14 n (λ e. absurd (omega (arith, e))), ne_eqb 23 n (λ e. absurd (omega (arith, e))), ne_eqb 24 n (λ e. absurd (omega (arith, e))))
+
+fillers_none : (n : ℕ) → last_call < n → get_or fillers n 0 ≡ 0
+unfolding fillers
+fillers_none n h = get_or-eq_default fillers 0 {n = n} (omega arith)
+
+pub filler_calls : (n : ℕ) → list_any (λ m. eqb m n) (6 ∷ 7 ∷ 14 ∷ 23 ∷ 24 ∷ []) ≡ eqb (get_or fillers n 0) 1
+unfolding fills fills_as
+filler_calls n = by_test (ltb n (last_call + 1)) (λ q. same _ _ (every_each fills_as (last_call + 1) fills_all n (ltb-true n (last_call + 1) q))) (λ q. beyond (ltb-false n (last_call + 1) q))
+  where
+    same : (x y : Bool) → pick x y (not y) ≡ true → x ≡ y
+    same true y e = sym e
+    same false true e = e
+    same false false e = refl
+
+    beyond : last_call + 1 ≤ n → fills n ≡ eqb (get_or fillers n 0) 1
+    beyond h = fills_none n (omega arith) ∙ ap (λ v. eqb v 1) (sym (fillers_none n (omega arith)))
+
+-- ---- calls by name or number
 
 -- a word is a call's number, or else at most its name: the number that it writes is too small, or too great
 module _ (w : List ℕ) (v : ℕ) (e : v ≡ value w) where
@@ -76,6 +115,10 @@ module _ (n f k : ℕ) (args : List ℕ) where
   unfolding given_from
   given_odd v vs h = rw (le-ltb v no_number h)
 
+  pub given_past : (v : ℕ) (vs : List ℕ) → 64 ≤ k → bad ≡ given_from n f k args (v ∷ vs)
+  unfolding given_from
+  given_past v vs h = rw (lt-leb (k + suc (length vs)) 64 (omega arith), and-false (every known (v ∷ vs)))
+
   pub given_full : (vs : List ℕ) → 64 < k → bad ≡ given_from n f k args vs
   unfolding given_from
   given_full vs h = rw (lt-leb (k + length vs) 64 (omega arith), and-false (every known vs))
@@ -104,6 +147,11 @@ called_is stage f w ws l t e a = go (every known vs && leb (length vs) 64) e
         let h : t ≡ may = a ∙ ap (λ l. allowed stage l.call l.count (get_or l.args 0 0)) q ∙ ap (allowed stage (call_of w) (length vs)) (first_is vs) in
         rw (h, q)
     go false q = rw q (pick_same t bad ∙ sym (pick_same may bad))
+
+-- a word that names no call
+pub called_none : (stage f : ℕ) (w : List ℕ) (ws : List (List ℕ)) → 0 ≡ call_of w → bad ≡ called stage f w ws
+unfolding called allowed
+called_none stage f w ws e = rw (← e)
 
 -- ---- after `as`
 
@@ -141,6 +189,13 @@ module _ (stage : ℕ) (w : List ℕ) (ws : List (List ℕ)) where
 
 -- ---- the mark in front
 
+-- std's test of two lists
+pub equal_pointwise : (xs ys : List ℕ) → equal eqb xs ys ≡ pointwise eqb xs ys
+equal_pointwise [] [] = refl
+equal_pointwise [] (y ∷ ys) = refl
+equal_pointwise (x ∷ xs) [] = refl
+equal_pointwise (x ∷ xs) (y ∷ ys) = ap (λ t. eqb x y && t) (equal_pointwise xs ys)
+
 module _ (l : List ℕ) where
   pub unmarked_mark : take 3 l ≡ mark → take (length l - 3) (drop 3 l) ≡ unmarked l
   unfolding unmarked
@@ -149,6 +204,15 @@ module _ (l : List ℕ) where
   pub unmarked_other : (take 3 l ≡ mark → ⊥) → l ≡ unmarked l
   unfolding unmarked
   unmarked_other e = by_test (equal eqb (take 3 l) mark) (λ q. absurd (e (equal_is eqb eqb-true (take 3 l) mark q))) (λ q. rw q)
+
+  -- as a search for the mark in front says it
+  pub unmarked_rest : (r : List ℕ) → pointwise eqb (take 3 l) mark ≡ true → r ≡ drop 3 l → r ≡ unmarked l
+  unfolding unmarked
+  unmarked_rest r e h = h ∙ rw (equal_pointwise (take 3 l) mark ∙ e)
+
+  pub unmarked_whole : pointwise eqb (take 3 l) mark ≡ false → l ≡ unmarked l
+  unfolding unmarked
+  unmarked_whole e = rw (equal_pointwise (take 3 l) mark ∙ e)
 
   pub unmarked_short : length l < 3 → l ≡ unmarked l
   unmarked_short h = unmarked_other (λ e. absurd (omega (arith, ap length e, length-take 3 l)))

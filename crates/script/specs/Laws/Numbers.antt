@@ -1,12 +1,12 @@
 -- Laws of the value of a word: the digits read so far and those to come give the whole.
 -- Assumes nothing.
-use Rattle.std.specs.Prelude.{◌≡◌, List, [], ◌∷◌, ℕ, ◌+◌, ◌-◌, ◌*◌, ◌≤◌, ◌<◌, min, leb, length, get_or, drop}
-use Rattle.std.proofs.Common.{sym, add-one, arith, drop_of_length-le}
+use Rattle.std.specs.Prelude.{◌≡◌, true, false, List, [], ◌∷◌, ℕ, ◌+◌, ◌-◌, ◌*◌, ◌≤◌, ◌<◌, min, leb, length, get_or, drop}
+use Rattle.std.proofs.Common.{sym, ◌∙◌, add-one, arith, drop_of_length-le}
 use Rattle.std.proofs.Math.Bool.{and-false}
 use Rattle.std.proofs.Math.Seq.{drop-cons}
-use borrow.Author.Tests.{le-leb, lt-leb, lt-ltb}
+use borrow.Author.Tests.{leb-true, le-leb, lt-leb, lt-ltb}
 use Rattle.lists.specs.Lists.{pick, every}
-use Rattle.lists.specs.Laws.Tests.{pick_same}
+use Rattle.lists.specs.Laws.Tests.{both, pick_same}
 use Rattle.script.specs.Script.{digit, decimal, no_number, value}
 
 -- the number v with the digits of a list after it
@@ -48,3 +48,15 @@ module _ (v : ℕ) (w : List ℕ) (i : ℕ) (h : i < length w) where
   pub valued_above : 57 < get_or w i 0 → no_number ≡ valued v (drop i w)
   unfolding valued
   valued_above a = rw (drop-cons w i 0 h, lt-leb (get_or w i 0) 57 a, and-false (leb 48 (get_or w i 0)))
+
+  -- by the test of a digit
+  pub valued_odd : digit (get_or w i 0) ≡ false → no_number ≡ valued v (drop i w)
+  unfolding valued
+  valued_odd e = rw (drop-cons w i 0 h, e)
+
+  module _ (q : digit (get_or w i 0) ≡ true) (d : ℕ) (e : d ≡ get_or w i 0 - 48) where
+    pub valued_read : valued (v * 10 + d) (drop (i + 1) w) ≡ valued v (drop i w)
+    valued_read = let k = both (leb 48 (get_or w i 0)) (leb (get_or w i 0) 57) q in rw e (sym (valued_next (leb-true _ _ k.0) (leb-true _ _ k.1)))
+
+    pub valued_over : no_number ≤ v * 10 + d → no_number ≡ valued v (drop i w)
+    valued_over k = valued_great (v * 10 + d) (drop (i + 1) w) k ∙ valued_read

@@ -1,7 +1,10 @@
 -- Laws of `front` and `tokens`: a line begins with blanks, then a word, and goes on with the words after it.
 -- Assumes nothing.
-use Rattle.std.specs.Prelude.{◌≡◌, refl, Bool, true, false, not, ◌||◌, List, [], ◌∷◌, ℕ, suc, ◌+◌, ◌-◌, ◌≤◌, ◌<◌, eqb, length, get_or, take, drop}
-use Rattle.std.proofs.Common.{sym, ap, ◌∙◌, add-one, arith, length-drop, drop_of_length-le, drop-cons, drop-drop, ne_eqb}
+use Rattle.std.specs.Prelude.{◌≡◌, refl, cond, min, Bool, true, false, not, ◌||◌, List, [], ◌∷◌, ℕ, suc, ◌+◌, ◌-◌, ◌≤◌, ◌<◌, eqb, length, get_or, take, drop}
+use Rattle.std.specs.List.{take_while, prefix_len}
+use Rattle.std.proofs.Math.Seq.{take-length}
+use Rattle.std.proofs.lemmas.List.{drop_min}
+use Rattle.std.proofs.Common.{sym, ap, ◌∙◌, add-one, one-add, arith, length-drop, drop_of_length-le, drop-cons, drop-drop, ne_eqb}
 use Rattle.std.proofs.lemmas.Bool.{false≢true, not-true}
 use Rattle.lists.specs.Lists.{pick}
 use Rattle.lists.specs.Laws.Tests.{neither}
@@ -45,6 +48,20 @@ module _ (f : ℕ → Bool) where
 
   pub front_end : (l : List ℕ) (i : ℕ) → length l ≤ i → length (front f (drop i l)) ≡ 0
   front_end l i h = rw (drop_of_length-le l {i = i} h)
+
+  -- as std has it
+  front_is : (l : List ℕ) → take_while f l ≡ front f l
+  front_is [] = refl
+  front_is (b ∷ l) = go (f b) (front_is l)
+    where
+      go : (t : Bool) → take_while f l ≡ front f l → take (cond t (1 + prefix_len f l) 0) (b ∷ l) ≡ pick t (b ∷ front f l) []
+      go true e = rw (one-add (prefix_len f l)) (ap (λ k. b ∷ k) e)
+      go false e = refl
+
+  -- in the part of a list that begins at a place, or at the end
+  pub front_part : (l : List ℕ) (at from r : ℕ) → from ≡ min at (length l) → r ≡ length (take_while f (take (length l - from) (drop from l))) → r ≡ length (front f (drop at l))
+  front_part l at from r e h =
+      h ∙ rw (← length-drop from l, take-length (drop from l), front_is (drop from l), e, drop_min at l)
 
 -- ---- blanks, and then a word or none
 

@@ -1,37 +1,30 @@
-use Rattle.std.proofs.Common.{eq-eqb, ne_eqb}
+use Rattle.std.proofs.Common.{ne_eqb, arith}
 use Rattle.tally.specs.Answers.{answer}
-use Rattle.tally.proofs.Laws.{added_none}
+use Rattle.tally.proofs.Laws.{appends_none}
 use Rattle.tally.proofs.add_answer.Goals as goal
 
-pub returns-then-call-eq-NOTHING : goal.returns-then-call-eq-NOTHING
+pub returns-in-0 : goal.returns-in-0
 unfolding answer
-returns-then-call-eq-NOTHING c = rw (eq-eqb _ _ c.if-call-eq-NOTHING.true) (added_none _ _)
+returns-in-0 c = rw c.in-0.is (appends_none _)
 
-pub returns-then-call-eq-NO_CALL : goal.returns-then-call-eq-NO_CALL
+pub returns-in-255 : goal.returns-in-255
 unfolding answer
-returns-then-call-eq-NO_CALL c =
-    rw (ne_eqb _ _ c.if-call-eq-NOTHING.false, eq-eqb _ _ c.if-call-eq-NO_CALL.true) (rw c.more.ensures at c.add_bad.ensures)
+returns-in-255 c = rw c.in-255.is (rw c.more.ensures at c.add_bad.ensures)
 
-pub returns-then-call-eq-SUMMARY : goal.returns-then-call-eq-SUMMARY
+pub returns-in-252 : goal.returns-in-252
 unfolding answer
-returns-then-call-eq-SUMMARY c =
-    rw (ne_eqb _ _ c.if-call-eq-NOTHING.false, ne_eqb _ _ c.if-call-eq-NO_CALL.false, eq-eqb _ _ c.if-call-eq-SUMMARY.true) (rw c.wrapping_add_u64-calls.ensures.value at c.add_summary.ensures)
+returns-in-252 c = rw c.in-252.is c.add_summary.ensures
 
-pub returns-then-call-eq-HELP : goal.returns-then-call-eq-HELP
+pub returns-in-253 : goal.returns-in-253
 unfolding answer
-returns-then-call-eq-HELP c =
-    rw (ne_eqb _ _ c.if-call-eq-NOTHING.false, ne_eqb _ _ c.if-call-eq-NO_CALL.false, ne_eqb _ _ c.if-call-eq-SUMMARY.false, eq-eqb _ _ c.if-call-eq-HELP.true) c.add_help.ensures
+returns-in-253 c = rw c.in-253.is c.add_help.ensures
 
-pub returns-then-call-eq-WHY : goal.returns-then-call-eq-WHY
+pub returns-in-254 : goal.returns-in-254
 unfolding answer
-returns-then-call-eq-WHY c =
-    rw
-    (ne_eqb _ _ c.if-call-eq-NOTHING.false, ne_eqb _ _ c.if-call-eq-NO_CALL.false, ne_eqb _ _ c.if-call-eq-SUMMARY.false, ne_eqb _ _ c.if-call-eq-HELP.false, eq-eqb _ _ c.if-call-eq-WHY.true)
-    c.add_why.ensures
+returns-in-254 c = rw c.in-254.is c.add_why.ensures
 
-pub returns : goal.returns
+pub returns-in_default : goal.returns-in_default
 unfolding answer
-returns c =
-    rw
-    (ne_eqb _ _ c.if-call-eq-NOTHING.false, ne_eqb _ _ c.if-call-eq-NO_CALL.false, ne_eqb _ _ c.if-call-eq-SUMMARY.false, ne_eqb _ _ c.if-call-eq-HELP.false, ne_eqb _ _ c.if-call-eq-WHY.false)
-    (rw (c.more-2.ensures, c.wrapping_add_u64-calls.ensures.value) at c.add_line.ensures)
+returns-in_default c =
+    let n = c.args.call in
+    rw (ne_eqb n 0 (omega arith), ne_eqb n 255 (omega arith), ne_eqb n 252 (omega arith), ne_eqb n 253 (omega arith), ne_eqb n 254 (omega arith)) (rw c.more-in_default.ensures at c.add_line.ensures)
