@@ -59,12 +59,13 @@ pub fn delete_in<'a>(
         filler,
         region,
         e,
+        tag,
         names,
         parents,
         shares,
         &frames,
         m,
-        &members,
+        &members.ticks,
     ) {
         return checks::refuses(r);
     }

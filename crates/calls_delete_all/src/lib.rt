@@ -89,7 +89,7 @@ pub fn delete_all_in<'a>(
     // scanned, on a copy of the shares
     let mut c = apart::scan(&kinds, heap, &pages, &members, *shares, filler);
     // the rest of the check
-    if joint_parts::pointed_at(&frames, m, pages.owners, &c, &members) {
+    if joint_parts::pointed_at(&frames, m, pages.owners, &c, &members.ticks) {
         return checks::refuses(Refusal::Counted);
     }
     // the frames that m is raised over enter the shares, by the owners before any page is given back

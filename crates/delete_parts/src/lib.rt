@@ -13,14 +13,13 @@ ghost use Rattle.lists.specs.Ticks.{tick_at};
 ghost use Rattle.delete_parts.specs.Delete.{delete_tests};
 
 use frames::FramesIn;
-use members::Members;
 use pages::PagesIn;
 use refusals::Refusal;
 use regions::Way;
 
 // Whether some slot of an uncounted frame leads into a member: nested loops, left by a label at the first that does (document 01, Forms to use in the code).
-pub fn look(frames: &FramesIn, counted: u32, owners: &[u8], members: &Members) -> bool
-    ensures { result ≡ led_among_in frames.now.standing counted frames.now.widths.now frames.now.slots.now owners.now (tick_at members.now.ticks) }
+pub fn look(frames: &FramesIn, counted: u32, owners: &[u8], ticks: &[u8]) -> bool
+    ensures { result ≡ led_among_in frames.now.standing counted frames.now.widths.now frames.now.slots.now owners.now (tick_at ticks.now) }
 {
     let n = frames.frame_count();
     let mut found = false;
@@ -28,7 +27,7 @@ pub fn look(frames: &FramesIn, counted: u32, owners: &[u8], members: &Members) -
         let w = frames.width_at(i);
         for k in 0..w {
             let t = pages::owner_of(owners, frames.slot_at(i, k));
-            if members.is_member(t) {
+            if members::is_member(ticks, t) {
                 found = true;
                 break 'look;
             }
@@ -37,7 +36,7 @@ pub fn look(frames: &FramesIn, counted: u32, owners: &[u8], members: &Members) -
     found
 }
 
-// Why the region of that name, with entry e, which is ticked, is not deleted. Names and parents are no RegionsIn: a delete is lent no levels.
+// Why the region of that name, with entry e and that tag, which is ticked, is not deleted. Names and parents are no RegionsIn: a delete is lent no levels.
 #[tactic(auto, unfolding(crate::specs::Delete::delete_tests))]
 pub fn delete_refusal<'a>(
     pages: &PagesIn,
@@ -45,14 +44,15 @@ pub fn delete_refusal<'a>(
     filler: u32,
     region: u32,
     e: u32,
+    tag: u32,
     names: &'a [u32],
     parents: &'a [u8],
     shares: &'a [u32],
     frames: &FramesIn,
     counted: u32,
-    members: &Members,
+    ticks: &[u8],
 ) -> Result<(), Refusal>
-    ensures { refused result ≡ first_refusal (reason (filler_tests pages.now.made words filler)) (reason (delete_tests region e (subregions_in names.now parents.now (e + 1)) (count_in shares.now e) (led_among_in frames.now.standing counted frames.now.widths.now frames.now.slots.now pages.now.owners.now (tick_at members.now.ticks)))) }
+    ensures { refused result ≡ first_refusal (reason (filler_tests pages.now.made words filler)) (reason (delete_tests region e (subregions_in names.now parents.now tag) (count_in shares.now e) (led_among_in frames.now.standing counted frames.now.widths.now frames.now.slots.now pages.now.owners.now (tick_at ticks.now)))) }
 {
     checks::check_filler(pages.made, words, filler)?;
     if 64 <= e {
@@ -61,12 +61,12 @@ pub fn delete_refusal<'a>(
     if region == 1 {
         return Err(Refusal::Permanent);
     }
-    let below = regions::subregions_of(names, parents, e + 1);
+    let below = regions::subregions_of(names, parents, tag);
     let stored = regions::count_at(shares, e);
     if below != 0 {
         return Err(Refusal::Subregion);
     }
-    if stored != 0 || look(frames, counted, pages.owners, members) {
+    if stored != 0 || look(frames, counted, pages.owners, ticks) {
         return Err(Refusal::Counted);
     }
     Ok(())

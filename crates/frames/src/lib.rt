@@ -1,4 +1,4 @@
-// The stack of frames, a part of the state held by value. The functions take what they read: numbers, and arrays lent.
+// The stack of frames, a part of the state held by value. The functions take what they read: numbers, arrays lent, or what is lent of the part (`FramesIn`).
 #![tactic(auto)]
 
 ghost use Rattle.std.specs.Prelude.{◌≡◌, ◌+◌, ◌*◌, set, replicate};

@@ -29,10 +29,10 @@ pub fn closed<'a>(names: &'a [u32], parents: &'a [u8], members: &'a Members) -> 
 }
 
 // Whether some member's count is not 0.
-fn still_counted<'a>(shares: &'a [u32], members: &'a Members) -> bool
-    ensures { result ≡ still_counted shares.now (tick_at members.now.ticks) }
+fn still_counted<'a>(shares: &'a [u32], ticks: &'a [u8]) -> bool
+    ensures { result ≡ still_counted shares.now (tick_at ticks.now) }
 {
-    (0..64).any(|i| members.is_member(i + 1) && regions::count_at(shares, i) != 0)
+    (0..64).any(|i| members::is_member(ticks, i + 1) && regions::count_at(shares, i) != 0)
 }
 
 // 19, asked once the scan has removed the members' references from the counts: whether a member is counted still, or a slot of an uncounted frame leads into one.
@@ -41,11 +41,11 @@ pub fn pointed_at(
     counted: u32,
     owners: &[u8],
     shares: &[u32],
-    members: &Members,
+    ticks: &[u8],
 ) -> bool
-    ensures { result ≡ (still_counted shares.now (tick_at members.now.ticks) || led_among_in frames.now.standing counted frames.now.widths.now frames.now.slots.now owners.now (tick_at members.now.ticks)) }
+    ensures { result ≡ (still_counted shares.now (tick_at ticks.now) || led_among_in frames.now.standing counted frames.now.widths.now frames.now.slots.now owners.now (tick_at ticks.now)) }
 {
-    still_counted(shares, members) || delete_parts::look(frames, counted, owners, members)
+    still_counted(shares, ticks) || delete_parts::look(frames, counted, owners, ticks)
 }
 
 // The members' entries are given up.

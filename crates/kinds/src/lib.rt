@@ -1,4 +1,4 @@
-// The kinds declared, a part of the state held by value. The functions take what they read: numbers, and arrays lent.
+// The kinds declared, a part of the state held by value. The functions take what they read: numbers, arrays lent, or what is lent of the part (`KindsIn`).
 #![tactic(auto)]
 
 ghost use Rattle.std.specs.Prelude.{◌≡◌, map, ◌%◌, eqb, ltb};

@@ -15,6 +15,14 @@ pub struct Members {
     pub ticks: [u8; 256],
 }
 
+// Whether the region with that tag is a member, by ticks lent.
+#[tactic(auto, unfolding(lists::specs::Ticks::tick_at))]
+pub fn is_member(ticks: &[u8], t: u32) -> bool
+    ensures { result ≡ tick_at ticks.now t }
+{
+    cells::get(ticks, t as usize) == 1
+}
+
 impl Members {
     pub fn none() -> Members
         ensures { result.ticks ≡ replicate 256 0 }
@@ -23,11 +31,10 @@ impl Members {
     }
 
     // Whether the region with that tag is a member.
-    #[tactic(auto, unfolding(lists::specs::Ticks::tick_at))]
     pub fn is_member(&self, t: u32) -> bool
         ensures { result ≡ tick_at self.now.ticks t }
     {
-        cells::get(&self.ticks, t as usize) == 1
+        is_member(&self.ticks, t)
     }
 
     pub fn tick(&mut self, t: u32)

@@ -63,7 +63,7 @@ pub fn write(heap: &mut [u32], v: u32, w: u32, x: u32)
     cells::put(heap, (v as usize) + (w as usize), x);
 }
 
-// How many words the object has; 0 where there is none, or it takes more than n words with its header: no kind has 0 words, and `fitting` says it so.
+// How many words the object has; 0 where there is none, or it takes more than n words with its header. No Option: at 0 a walk ends, and `fitting` says it so.
 pub fn fits(kinds: &KindsIn, object: &[u32], n: usize) -> u32
     ensures { result ≡ fitting kinds.now.declared kinds.now.sizes.now object.now n }
 {

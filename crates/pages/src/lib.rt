@@ -1,4 +1,4 @@
-// The pages of the heap, a part of the state held by value. The functions take what they read: numbers, and arrays lent.
+// The pages of the heap, a part of the state held by value. The functions take what they read: numbers, arrays lent, or what is lent of the part (`PagesIn`).
 // For null and for none a reading gives the number that the definitions and the state itself have for it, and no Option: owner 0, page 256 and word 0 (`owner_in`, `page_of`, `word_of`; locate answers with the last two), as many pages as there are (`first_free_in`).
 #![tactic(auto)]
 

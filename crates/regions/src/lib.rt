@@ -1,4 +1,4 @@
-// The region entries, a part of the state held by value. The functions take what they read: numbers, and arrays lent.
+// The region entries, a part of the state held by value. The functions take what they read: numbers, arrays lent, or what is lent of the part (`RegionsIn`).
 // For none a reading gives the number that the definitions and the state itself have for it, and no Option: name 0 and tag 0, entry 64 (`name_in`, `entry_in`, `unused_in`).
 #![tactic(auto)]
 

@@ -1,8 +1,7 @@
 // The words of a line of a script, and the tables of what they can say: calls of the store by name or number, with how many arguments, and words that are no calls. Every function takes any bytes.
 #![tactic(auto)]
 
-ghost use Rattle.std.specs.Prelude.{◌≡◌, ◌≤◌, ◌+◌, ◌-◌, true, false, eqb, ltb, length, get_or, drop, MatchOption, IfSome};
-ghost use Rattle.std.specs.List.{take_while};
+ghost use Rattle.std.specs.Prelude.{◌≡◌, ◌≤◌, ◌+◌, ◌-◌, true, false, eqb, ltb, length, get_or, drop, IfSome};
 ghost use Rattle.lists.specs.Lists.{pick};
 ghost use Rattle.script.specs.Script.{blank, of_class, front, tokens, digit, value, placed, named, least, most, fillers, call_of, takes, allowed, unmarked};
 ghost use Rattle.script.specs.Found.{class_number, Next, LineAt, written, or_none};
@@ -66,18 +65,16 @@ fn blank(b: u8) -> bool
     b == b' ' || b == b'\t' || b == b'\r'
 }
 
-// How many bytes in front are of the class.
-fn front_len(s: &[u8], class: Class) -> usize
-    ensures { result ≡ length (take_while (of_class (class_number class)) s.now) }
-{
-    s.iter().take_while(|b| class.has(**b)).count()
-}
-
 // The first place from `at` on whose byte is not of the class, or the end.
 fn past(s: &[u8], at: usize, class: Class) -> usize
     ensures { result ≡ at + length (front (of_class (class_number class)) (drop at s.now)) }
 {
-    at + front_len(&s[at.min(s.len())..], class)
+    for i in at..s.len() {
+        if !class.has(s[i]) {
+            return i;
+        }
+    }
+    at.max(s.len())
 }
 
 // Where the next word from `at` on stands.
@@ -110,13 +107,10 @@ pub fn line_at(s: &[u8], at: usize) -> &[u8]
     &s[at..line_end(s, at)]
 }
 
-fn digit(b: u8) -> Option<u32>
-    ensures { MatchOption result (digit b ≡ false) (λ d. (digit b ≡ true) × (d ≡ b - 48)) }
+fn is_digit(b: u8) -> bool
+    ensures { result ≡ digit b }
 {
-    match b {
-        b'0'..=b'9' => Some(u32::from(b - b'0')),
-        _ => None,
-    }
+    b'0' <= b && b <= b'9'
 }
 
 // The number that a word writes, where it writes one below 2^32.
@@ -126,12 +120,18 @@ pub fn number(w: &[u8]) -> Option<u32>
     if w.is_empty() {
         return None;
     }
-    let mut v: u32 = 0;
+    let mut v: u64 = 0;
     for b in w {
-        let d = digit(*b)?;
-        v = v.checked_mul(10)?.checked_add(d)?;
+        let c = *b;
+        if !is_digit(c) {
+            return None;
+        }
+        v = v * 10 + u64::from(c - b'0');
+        if u64::from(u32::MAX) < v {
+            return None;
+        }
     }
-    Some(v)
+    Some(v as u32)
 }
 
 // The place of w among the words of a line, the first of which has the place `first`.

@@ -1,3 +1,4 @@
+use borrow.Author.Rules.{rules}
 use mathlib.Core.Path.{◌≡◌, refl, ◌∙◌}
 use native.Mathlib.Omega.{arith}
 use Rattle.frames.specs.Frames.{width_in}
@@ -9,7 +10,7 @@ use Rattle.checks.proofs.step_slots.Goals as goal
 
 pub loop-s-init : goal.loop-s-init
 unfolding steps
-loop-s-init c = (c.width_at-n.ensures, refl)
+loop-s-init c = (search rules, search rules)
 
 pub loop-s-preserved : goal.loop-s-preserved
 loop-s-preserved c = (

@@ -31,9 +31,9 @@ module _ (widths slots owners members : List ℕ) (i : ℕ) where
 
 -- no slot passed of the frame leads into a member
 abbrev pub invariant-loop-k : goal.invariant-loop-k
-invariant-loop-k l = (l.found ≡ false) × (l.w ≡ width_in l.frames.widths.now l.i) × ((j : ℕ) → j < l.k → into l.frames.widths.now l.frames.slots.now l.owners l.members.ticks l.i j ≡ false)
+invariant-loop-k l = (l.found ≡ false) × (l.w ≡ width_in l.frames.widths.now l.i) × ((j : ℕ) → j < l.k → into l.frames.widths.now l.frames.slots.now l.owners l.ticks l.i j ≡ false)
 
 -- the frames left lead into a member exactly if all uncounted frames do
 abbrev pub invariant-look : goal.invariant-look
 invariant-look l =
-    (l.found ≡ false) × (l.n ≡ frame_count_in l.frames.standing) × (any_of (leads l.frames.widths.now l.frames.slots.now l.owners l.members.ticks) (from l.i (frame_count_in l.frames.standing - l.i)) ≡ led_among_in l.frames.standing l.counted l.frames.widths.now l.frames.slots.now l.owners (tick_at l.members.ticks))
+    (l.found ≡ false) × (l.n ≡ frame_count_in l.frames.standing) × (any_of (leads l.frames.widths.now l.frames.slots.now l.owners l.ticks) (from l.i (frame_count_in l.frames.standing - l.i)) ≡ led_among_in l.frames.standing l.counted l.frames.widths.now l.frames.slots.now l.owners (tick_at l.ticks))

@@ -8,5 +8,5 @@ use Rattle.joint_parts.proofs.still_counted.Goals as goal
 pub returns : goal.returns
 unfolding still_counted
 returns c =
-    let counted : ℕ → Bool = λ i. tick_at c.args.members.now.ticks (suc i) && not (eqb (count_in c.args.shares.now i) 0) in
+    let counted : ℕ → Bool = λ i. tick_at c.args.ticks.now (suc i) && not (eqb (count_in c.args.shares.now i) 0) in
     any_from_any counted 0 64 64 c.any.ensures.ran refl (omega arith) (λ i b q k. search rules)

@@ -1,4 +1,4 @@
-use Rattle.std.proofs.Common.{◌≡◌, ◌+◌, ◌%◌, eq-eqb, ne_eqb}
+use Rattle.std.proofs.Common.{◌≡◌, ◌+◌, ◌%◌, eq-eqb, ne_eqb, rules}
 use Rattle.regions.specs.Laws.Steps.{stepped}
 use Rattle.regions.specs.Ways.{by}
 use Rattle.regions.proofs.step.Goals as goal
@@ -12,7 +12,7 @@ pub returns : goal.returns
 unfolding stepped
 returns c =
     let moved : c.match-way.moved ≡ (c.get-v.result + by c.args.way) % 4294967296 = elim c.match-way.branch [
-      | in-In w ↦ rw w.in-In.is w.moved-is
-      | in-Out w ↦ rw w.in-Out.is w.moved-is
+      | in-In w ↦ rw w.in-In.is (search rules)
+      | in-Out w ↦ rw w.in-Out.is (search rules)
     ] in
     rw (ne_eqb _ _ c.if-tag-eq0.false, ← c.get-v.ensures, ← moved) c.put.ensures

@@ -1,4 +1,6 @@
-use mathlib.Core.Path.{sym, ◌∙◌}
+use mathlib.Core.Path.{◌≡◌, sym, ◌∙◌}
+use borrow.Author.Rules.{rules}
+use Rattle.std.specs.Result.{result_and}
 use Prim.Native.Nat.{◌<◌}
 use native.Mathlib.Omega.{arith}
 use lib.ListN.{length}
@@ -14,8 +16,9 @@ pub loop-n-preserved : goal.loop-n-preserved
 loop-n-preserved c =
     let h : c.loop-n.n-index < length c.args.list.now = omega arith in
     let list = c.args.list.now in
-    let names = c.args.names.now in record {
-      first = rw c.and-first.ensures (refused_more list c.loop-n.n-index h names _ c.entry_of-e.ensures c.loop-n.first _ c.name_refusal.ensures) ∙ c.loop-n.invariant.first;
+    let names = c.args.names.now in
+    let kept : c.and-first.result ≡ result_and c.loop-n.first c.name_refusal.result = search rules in record {
+      first = rw kept (refused_more list c.loop-n.n-index h names _ c.entry_of-e.ensures c.loop-n.first _ c.name_refusal.ensures) ∙ c.loop-n.invariant.first;
       ticks = ticked_more list c.loop-n.n-index h names _ c.entry_of-e.ensures _ _ c.tick.ensures ∙ c.loop-n.invariant.ticks;
     }
 
