@@ -1,7 +1,7 @@
 // What delete asks before a region goes; the look over the uncounted frames and the frames that are counted from then on, for a joint delete too.
 #![tactic(auto)]
 
-ghost use Rattle.std.specs.Prelude.{◌≡◌, ◌+◌};
+ghost use Rattle.std.specs.Prelude.{◌≡◌};
 ghost use Rattle.model.specs.Calls.{reason};
 ghost use Rattle.regions.specs.Regions.{subregions_in, count_in};
 ghost use Rattle.regions.specs.Laws.Steps.{enterings};

@@ -11,6 +11,7 @@ pub struct View {
     pub count: u32,
 }
 
+// An array laid back where it was lent from. Nothing here calls it, and `*to = *from` does the same: it stays for those who know it by its name (docs/DESIGN-PASS.md).
 pub fn lay_words(to: &mut [u32; 64], from: &[u32; 64])
     ensures { to.new ≡ from.now }
 {

@@ -1,7 +1,7 @@
 // The words of a line of a script, and the tables of what they can say: calls of the store by name or number, with how many arguments, and words that are no calls. Every function takes any bytes.
 #![tactic(auto)]
 
-ghost use Rattle.std.specs.Prelude.{◌≡◌, ◌≤◌, ◌+◌, ◌-◌, true, false, eqb, ltb, length, get_or, drop, IfSome};
+ghost use Rattle.std.specs.Prelude.{◌≡◌, ◌≤◌, ◌+◌, ◌-◌, eqb, ltb, length, get_or, drop, IfSome};
 ghost use Rattle.lists.specs.Lists.{pick};
 ghost use Rattle.script.specs.Script.{blank, of_class, front, tokens, digit, value, placed, named, least, most, fillers, call_of, takes, allowed, unmarked};
 ghost use Rattle.script.specs.Found.{class_number, Next, LineAt, written, or_none};

@@ -1,6 +1,6 @@
-use borrow.Author.Rules.{rules}
-use mathlib.Core.Path.{◌≡◌, refl, ◌∙◌}
+use mathlib.Core.Path.{◌≡◌, ◌∙◌}
 use native.Mathlib.Omega.{arith}
+use borrow.Author.Rules.{rules}
 use Rattle.frames.specs.Frames.{width_in}
 use Rattle.regions.specs.Laws.Steps.{steps}
 use Rattle.regions.specs.Ways.{by}

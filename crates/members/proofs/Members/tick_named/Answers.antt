@@ -1,9 +1,9 @@
 use mathlib.Core.Path.{◌≡◌, sym, ◌∙◌}
-use borrow.Author.Rules.{rules}
-use Rattle.std.specs.Result.{result_and}
 use Prim.Native.Nat.{◌<◌}
 use native.Mathlib.Omega.{arith}
+use borrow.Author.Rules.{rules}
 use lib.ListN.{length}
+use Rattle.std.specs.Result.{result_and}
 use Rattle.regions.specs.Laws.Entries.{entry_most}
 use Rattle.members.specs.Members.{tag_by}
 use Rattle.members.proofs.Laws.{refused_more, refused_end, ticked_more, ticked_end}
